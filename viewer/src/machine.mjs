@@ -197,9 +197,9 @@ export class Machine {
     return Math.min(this.bound, mostAmong(this.rules, this.present));
   }
 
-  /** The most moves that can come before the next disturbance. */
+  /** The most moves that can come before the next disturbance: none if no rule is enabled. */
   get movesLeft() {
-    return Math.min(this.charge, mostAmong(this.rules, this.present));
+    return this.enabledCount === 0 ? 0 : Math.min(this.charge, mostAmong(this.rules, this.present));
   }
 
   /** @param {number} v */

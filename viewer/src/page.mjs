@@ -4,7 +4,7 @@ import {beforeCut} from "./cut.mjs";
 import {counted} from "./numbers.mjs";
 import {useNames} from "./own_names.mjs";
 import {Playing} from "./playing.mjs";
-import {forget, keep, kept} from "./playground/keeping.mjs";
+import {Keeper} from "./playground/keeping.mjs";
 import {LabPage} from "./playground/lab_page.mjs";
 import {listenToFiles} from "./playground/opening.mjs";
 import {kindOf} from "./playground/text_kinds.mjs";
@@ -14,8 +14,9 @@ import {Damaged} from "./rudekpi/errors.mjs";
 import {byId, nameWindow} from "./svg.mjs";
 
 const LONGEST_SHOWN = 300;
-// saves this many milliseconds after a change; larger states only when the page is left
+// keeps the state this many milliseconds after a change, and a larger one later
 const SOON = 400;
+const LATER = 2000;
 const LARGE = 1 << 20;
 const WITHOUT =
   "This browser does not run WebAssembly, so no network can be broken here. A recorded run is played in its place, and so is a transcript that you open.";
@@ -85,6 +86,11 @@ class Page {
     this.file = "";
     /** What remains of the refused transcript, or nothing. */
     this.rest = "";
+    /**
+     * The network kept before a reload, or null.
+     * @type {import("./playground/keeping.mjs").KeptLab | null}
+     */
+    this.keptLab = null;
     /** @type {Promise<Engine | null> | undefined} */
     this.loaded = undefined;
     this.runs = dataOf("engine") !== null && canRun();
@@ -98,18 +104,24 @@ class Page {
     byId("refusal-close").addEventListener("click", () => this.refuse(null));
     byId("refusal-rest").addEventListener("click", () => this.judge(new TextEncoder().encode(this.rest), ""));
     listenToFiles((data, name) => this.open(data, name), (wrong) => this.refuse(wrong));
+    this.keeper = new Keeper((said) => this.refuse({ said, line: "" }));
+    this.keeper.listen();
     addEventListener("pagehide", () => this.keep());
   }
 
   async start() {
-    const before = kept();
+    const before = await this.keeper.kept();
+    this.keptLab = before?.lab ?? null;
     if (before?.view === "player" && before.transcript !== null) {
-      this.keptLab = before.lab;
       await this.judge(new TextEncoder().encode(before.transcript), before.file ?? "");
     } else if (this.embedded !== null && before?.view !== "lab") {
       this.play(this.embedded, dataOf("judge"));
     } else {
       await this.openLab(before?.lab ?? null);
+    }
+    if (before && before.lost.length > 0) {
+      const what = before.lost.includes("lab") ? "network that was here" : "transcript that was open here";
+      this.refuse({ said: `The browser has not kept the ${what}: open its file again.`, line: "" });
     }
   }
 
@@ -189,21 +201,20 @@ class Page {
   }
 
   keepSoon() {
+    const size = this.lab.play.labs.reduce((sum, lab) => sum + lab.size, 0);
     this.soon ??= setTimeout(() => {
       this.soon = null;
-      if (this.lab.play.labs.reduce((sum, lab) => sum + lab.size, 0) < LARGE) {
-        this.keep();
-      }
-    }, SOON);
+      this.keep();
+    }, size < LARGE ? SOON : LATER);
   }
 
   keep() {
     const isLab = document.body.classList.contains("lab");
-    const state = this.lab?.play.labs.length > 0 ? this.lab.state : this.keptLab ?? null;
+    const state = this.lab?.play.labs.length > 0 ? this.lab.state : this.keptLab;
     if (isLab || this.opened !== null) {
-      keep(isLab ? "lab" : "player", state, this.opened, this.file);
+      this.keeper.keep(isLab ? "lab" : "player", state, this.opened, this.file);
     } else {
-      forget();
+      this.keeper.forget();
     }
   }
 
@@ -286,6 +297,7 @@ class Page {
     if (wrong === null) {
       [this.opened, this.file] = [text, file];
       this.play(text, { here: true, verdict: said });
+      this.keep();
     } else if (!this.playing.isOn && !document.body.classList.contains("lab")) {
       await this.openLab(null);
     }

@@ -100,7 +100,7 @@ export class Panel {
       place.textContent = typeof value === "number" ? grouped(value) : value;
     }
     byId("bound-by").textContent = this.boundBy(number);
-    byId("quiet").textContent = machine.enabledCount === 0 ? "stable" : "not stable";
+    byId("quiet").textContent = machine.enabledCount === 0 ? "stable, silent" : "not stable";
     byId("quiet").classList.toggle("stable", machine.enabledCount === 0);
   }
 

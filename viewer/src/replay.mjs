@@ -136,6 +136,9 @@ export class Replay {
 
   /** @param {number} number */
   movesLeft(number) {
+    if (this.valueAt("enabled", number) === 0) {
+      return 0;
+    }
     return Math.min(this.valueAt("charge", number), mostAmong(this.transcript.rules, this.valueAt("nodes", number)));
   }
 

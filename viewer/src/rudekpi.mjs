@@ -1,8 +1,30 @@
 // Rudekpi as a module for JavaScript: networks and audits, run by the engine inside. Types: rudekpi.d.ts.
+import {isProgram, runProgram} from "./program/program.mjs";
 import {Audit, audit} from "./rudekpi/audits.mjs";
-import {Damaged, Ended, MemoryError, NoReply, Refused, RudekpiError} from "./rudekpi/errors.mjs";
+import {BadView, Damaged, Ended, MemoryError, NoReply, Refused, RudekpiError} from "./rudekpi/errors.mjs";
+import {localRule, mayMove} from "./rudekpi/local_rule.mjs";
 import {Network} from "./rudekpi/network.mjs";
 import {Matching, Wish} from "./rudekpi/replies.mjs";
 import {version} from "./rudekpi/version.mjs";
 
-export {Audit, Damaged, Ended, Matching, MemoryError, Network, NoReply, Refused, RudekpiError, Wish, audit, version};
+export {
+  Audit,
+  audit,
+  BadView,
+  Damaged,
+  Ended,
+  localRule,
+  Matching,
+  mayMove,
+  MemoryError,
+  Network,
+  NoReply,
+  Refused,
+  RudekpiError,
+  version,
+  Wish
+};
+
+if (await isProgram(import.meta)) {
+  await runProgram();
+}

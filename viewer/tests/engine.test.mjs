@@ -127,17 +127,22 @@ test(
     assert.ok(entries > 5000, `${entries} entries`);
   });
 
+const NO_COMMAND = "`no` is no command: they are link, unlink, point, flag, join, leave, step, show, enabled, " +
+  "matching, status, checkpoint, drive, scramble";
+
 test("a lab takes no bad line, and plays other lines from the start", { skip }, async () => {
   const lab = new Lab(await engineOfPage(), { rules: "hh", names: 4, present: 3 });
   ["link 1 2", "link 2 3", "step 1"].forEach((line) => lab.feed(line));
-  assert.throws(() => lab.feed("no command"), new BadLine(4, "no command", "is no command"));
+  assert.throws(() => lab.feed("no command"), new BadLine(4, "no command", "is no command", NO_COMMAND));
   assert.equal(lab.script, "link 1 2\nlink 2 3\nstep 1\n");
   assert.equal(lab.transcript, "matching hh 4 3\n1 link 1 2 = ok\n2 link 2 3 = ok\n3 step 1 = 1:seduce>2\n");
   assert.equal(lab.words, "run --rules hh --nodes 4 --present 3");
   lab.replay(["link 1 2"]);
   assert.equal(lab.transcript, "matching hh 4 3\n1 link 1 2 = ok\n");
   assert.deepEqual([lab.seen.edgeCount, lab.seen.charge, lab.seen.enabledNodes], [1, 2, [1, 2]]);
-  assert.throws(() => lab.replay(["link 1 2", "lnk"]), new BadLine(2, "lnk", "is no command"));
+  assert.throws(
+    () => lab.replay(["link 1 2", "lnk"]),
+    new BadLine(2, "lnk", "is no command", "`lnk` is no command: `link` may be meant"));
   lab.free();
 });
 

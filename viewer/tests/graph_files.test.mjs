@@ -70,7 +70,7 @@ test("what is none of its format is refused with its line", () => {
     Array.from({ length: 120 }, (_, v) => Array.from({ length: v }, (_, w) => `${w + 1} ${v + 1}\n`).join("")).join("");
   assert.throws(
     () => readGraph(many, "edge list"),
-    new RegExp(`7,140 links, and this page draws 500 and ${MOST_LINKS.toLocaleString("en")}`));
+    new RegExp(`7,140 edges, and this page draws 500 and ${MOST_LINKS.toLocaleString("en")}`));
 });
 
 test(

@@ -125,6 +125,12 @@ function compareState(net, text, seed) {
     const other = nodes.find(([it]) => it === pointer);
     assert.equal(net.partner(node), other?.[1] === node ? pointer : null, `seed ${seed}, node ${node}`);
   }
+  assert.deepEqual(net.restless(), net.present.filter((node) => !net.isAtRest(node)), `seed ${seed}`);
+  for (const name of net.nodes.filter((node) => !net.present.includes(node))) {
+    for (const ask of [() => net.registers(name), () => net.neighbours(name)]) {
+      assert.throws(ask, { name: "RangeError", message: `node ${name} is not present` });
+    }
+  }
 }
 
 test(`${SCRIPTS} random scripts by calls write what the program writes, and replies are the entries'`, { skip }, () => {
@@ -143,9 +149,10 @@ test(`${SCRIPTS} random scripts by calls write what the program writes, and repl
     const { entries: count, epochs, moves } = net.audit();
     assert.equal(`accepted: ${count} entries, ${epochs} epochs, ${moves} moves\n`, said, `seed ${seed}`);
     // the moves that can still come, by docs/BOUNDS.md
-    const { nodes, charge } = net.status();
+    const { nodes, charge, enabled } = net.status();
     const dense = nodes < 2 ? 0 : Math.floor((nodes * nodes) / 2) + nodes - 2;
-    assert.equal(net.movesLeft(), script.rules === "hh" ? Math.min(charge, dense) : charge, `seed ${seed}`);
+    const bound = script.rules === "hh" ? Math.min(charge, dense) : charge;
+    assert.equal(net.movesLeft(), enabled === 0 ? 0 : bound, `seed ${seed}`);
     net.close();
     lines.forEach((line) => kinds.add(line.split(" ")[0]));
     refused += entries.filter(([, reply]) => reply.startsWith("refused ")).length;
@@ -299,6 +306,26 @@ test("a transcript that is not kept begins with its last base", { skip }, () => 
     "matching2 hh 3\nbase 2 spent=1 nodes=3 edges=1\nnode 1 2 0\nnode 2 - 0\nnode 3 - 0\nedge 1 2\n" +
       "3 step 2 = 2:marry>1\n");
   assert.deepEqual(net.audit(), { entries: 1, epochs: 1, moves: 1 });
+});
+
+test("a network that is renumbered goes on in the same state with a new transcript", { skip }, () => {
+  const base = "spent=1 nodes=2 edges=1\nnode 1 2 0\nnode 2 - 0\nedge 1 2\n";
+  const begun = "matching hh 2\n1 link 1 2 = ok\n2 step 1 = 1:seduce>2\n";
+  for (const keep of [true, false]) {
+    const net = new Network("hh", 2, { keep });
+    net.link(1, 2);
+    net.step([1]);
+    const ended = net.renumber();
+    assert.equal(ended, `${begun}matching2 hh 2\nbase 2 ${base}`);
+    assert.equal(net.transcript(), `matching2 hh 2\nbase 0 ${base}`);
+    assert.deepEqual([net.step([2]).entry, net.status().entry, net.status().spent], [1, 2, 2]);
+    assert.deepEqual([audit(ended).entries, net.audit().entries, net.registers(2).pointer], [2, 3, 1]);
+    const second = net.renumber();
+    assert.deepEqual([audit(second).entries, net.audit().entries, net.show(1).entry], [3, 0, 1]);
+    assert.ok(second.startsWith(`matching2 hh 2\nbase 0 ${base}1 step 2 = 2:marry>1\n`));
+    net.close();
+    assert.throws(() => net.renumber(), { name: "TypeError", message: "the network is closed" });
+  }
 });
 
 /** A text without the base that begins it. */

@@ -2,6 +2,8 @@
 // of nodes, and sentences.
 import assert from "node:assert/strict";
 import test from "node:test";
+import {chanceOf} from "../src/playground/chance.mjs";
+import {chosenBy} from "../src/playground/choices.mjs";
 import {frame, freePlace, placesOf, within} from "../src/playground/places.mjs";
 import {PRESETS, presetOf} from "../src/playground/presets.mjs";
 import {readAddress, writeAddress} from "../src/playground/sharing.mjs";
@@ -89,18 +91,79 @@ test("nodes lie apart, inside the drawing, and newcomers where room is", () => {
 });
 
 test("what happened is told in a sentence", () => {
-  assert.equal(toldOf("unlink 3 7"), "The link 3 – 7 is cut.");
+  assert.equal(toldOf("unlink 3 7"), "The edge 3 – 7 is cut.");
   assert.equal(toldOf("point 3 -"), "Node 3 points nowhere now.");
   assert.equal(toldOf("scramble 9 1"), "1 register scrambled.");
   const place = { textContent: "", classList: { toggle: () => {} } };
   const story = new Story(place);
-  story.goesOn(0, 0, 5);
-  assert.equal(place.textContent, "5 pairs, and nothing is left to do. Now break something.");
-  story.breaks("unlink 3 7", 9);
-  story.goesOn(1, 2, 4);
-  assert.equal(place.textContent, "The link 3 – 7 is cut. Mending: 1 move so far, of at most 9.");
-  story.goesOn(1, 0, 5);
-  assert.equal(place.textContent, "The link 3 – 7 is cut. Mended in 2 moves; at most 9 could have come.");
+  story.goesOn([{ rules: "hh", moves: 12, isSilent: true }], 5);
+  assert.equal(place.textContent, "5 married pairs, and nothing is left to do. Now break something.");
+  story.breaks("unlink 3 7", new Map([["hh", 9]]));
+  story.goesOn([{ rules: "hh", moves: 1, isSilent: false }], 4);
+  assert.equal(place.textContent, "The edge 3 – 7 is cut. Mending: 1 move so far, of at most 9.");
+  story.goesOn([{ rules: "hh", moves: 2, isSilent: true }], 5);
+  assert.equal(place.textContent, "The edge 3 – 7 is cut. Mended in 2 moves; at most 9 could have come.");
+});
+
+test("of two networks each has its own moves, if the change concerns it", () => {
+  const place = { textContent: "", classList: { toggle: () => {} } };
+  const story = new Story(place);
+  story.breaks("scramble 1 3", new Map([["hh", 9], ["manne", 1200]]));
+  const at = (hh, manne, isSilent) =>
+    story.goesOn([{ rules: "hh", moves: hh, isSilent: true }, { rules: "manne", moves: manne, isSilent }], 5);
+  at(1, 4, false);
+  assert.equal(
+    place.textContent,
+    "3 registers scrambled. Mending: Hsu and Huang 1 move so far, of at most 9; Manne and others 4 moves so far, of at most 1,200.");
+  at(1, 7, true);
+  assert.equal(
+    place.textContent,
+    "3 registers scrambled. Mended: Hsu and Huang in 1 move, of at most 9; Manne and others in 7 moves, of at most 1,200.");
+  at(0, 0, true);
+  assert.equal(place.textContent, "3 registers scrambled. Nobody had to move.");
+  story.breaks("flag 3 0", new Map([["manne", 8]]));
+  at(6, 1, true);
+  assert.equal(place.textContent, "The flag of node 3 is 0 now. Mended in 1 move; at most 8 could have come.");
+});
+
+/** The neighbours of each node of a graph. */
+function neighboursOf(nodes, links) {
+  const near = Array.from({ length: nodes + 1 }, () => new Set());
+  links.forEach(([v, w]) => (near[v].add(w), near[w].add(v)));
+  return near;
+}
+
+test("a locally central choice has no two neighbours, and takes no further node", () => {
+  const { links } = presetOf("random", 60, 4);
+  const neighbours = neighboursOf(60, links);
+  const kinds = new Set();
+  for (let seed = 1; seed <= 200; seed += 1) {
+    const enabled = Array.from({ length: 60 }, (_, at) => at + 1).filter((node) => (node * seed) % 7 > 2);
+    const chosen = chosenBy("local", enabled, { neighbours, probability: 1, draw: chanceOf(seed) });
+    assert.deepEqual(chosen, chosen.filter((node) => enabled.includes(node)).sort((a, b) => a - b));
+    for (const node of enabled) {
+      const near = chosen.filter((other) => neighbours[node].has(other)).length;
+      assert.equal(near === 0, chosen.includes(node), `seed ${seed}, node ${node}`);
+    }
+    kinds.add(chosen.join());
+  }
+  assert.ok(kinds.size > 150, `${kinds.size} choices`);
+});
+
+test("an activation probability is the share of the enabled nodes that move, of which one does", () => {
+  const enabled = Array.from({ length: 100 }, (_, at) => at + 1);
+  const by = (probability, seed) => ({ neighbours: [], probability, draw: chanceOf(seed) });
+  for (const probability of [0.1, 0.5, 0.9]) {
+    const counts = Array.from({ length: 300 }, (_, seed) => chosenBy("chance", enabled, by(probability, seed)).length);
+    const mean = counts.reduce((sum, count) => sum + count, 0) / counts.length;
+    // five standard errors of the mean of 300 draws of 100 nodes
+    const error = 5 * Math.sqrt((100 * probability * (1 - probability)) / 300);
+    assert.ok(Math.abs(mean - 100 * probability) < error, `${probability}: ${mean}`);
+  }
+  assert.deepEqual(chosenBy("chance", enabled, by(1, 3)), enabled);
+  const alone = Array.from({ length: 50 }, (_, seed) => chosenBy("chance", [4, 7, 9], by(0, seed)));
+  assert.ok(alone.every((chosen) => chosen.length === 1));
+  assert.deepEqual([...new Set(alone.flat())].sort(), [4, 7, 9]);
 });
 
 test("a tool does what it says", () => {

@@ -6,7 +6,8 @@ import {fileURLToPath} from "node:url";
 import {canRun, Engine} from "../src/rudekpi/engine.mjs";
 
 const PAGE = process.env.PLAYGROUND ?? fileURLToPath(new URL("../../release/playground.html", import.meta.url));
-const PROGRAM = process.env.CONSOLE ?? fileURLToPath(new URL("../../crates/console/out/console", import.meta.url));
+export const PROGRAM =
+  process.env.CONSOLE ?? fileURLToPath(new URL("../../crates/console/out/console", import.meta.url));
 const EMBEDDED = /<script type="application\/json" id="engine">"([A-Za-z0-9+/=]+)"<\/script>/;
 
 /** Why no test can run here, or false. */

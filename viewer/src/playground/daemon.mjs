@@ -1,10 +1,13 @@
-// The page's daemon: moves drawn from a seed, or all enabled nodes at once; step by step, or automatically.
+// The page's daemon: moves drawn from a seed, or many enabled nodes at once; step by step, or automatically.
 // Scrambles use the same seeds.
 import {byId, field} from "../svg.mjs";
+import {chanceOf} from "./chance.mjs";
+import {chosenBy, OF_MANY} from "./choices.mjs";
 import {Runner} from "./runner.mjs";
 
 const LAST_SEED = 999_999_999;
 const MOST_SCRAMBLED = 1000;
+const LEAST_PERCENT = 1;
 
 /** @typedef {import("./lab.mjs").Lab} Lab */
 
@@ -15,7 +18,7 @@ export class Daemon {
     this.seed = 0;
     /** Whether the next move extends an act that is undone as one. */
     this.stretch = false;
-    this.runner = new Runner(() => this.stepAll(), (count) => count > 0 && play.show(count));
+    this.runner = new Runner(() => this.stepAll(), (count) => count > 0 && play.show());
   }
 
   nextSeed() {
@@ -34,9 +37,8 @@ export class Daemon {
     if (!lab.fed && lab.seen.enabledCount === 0) {
       return false;
     }
-    const all = field("daemon").value === "all" && lab.seen.flags;
-    const enabled = all && lab.fed ? lab.look().enabledNodes : lab.seen.enabledNodes;
-    if (all && enabled.length === 0) {
+    const line = this.lineFor(lab);
+    if (line === null) {
       return false;
     }
     const begins = !this.stretch;
@@ -44,7 +46,6 @@ export class Daemon {
       play.remember();
       this.stretch = true;
     }
-    const line = all ? `step ${enabled.join(" ")}` : `drive ${this.nextSeed()} 1`;
     const made = play.attempt(() => play.feed(line, [lab]), begins);
     this.stretch = made !== null;
     if (made?.[0] === "") {
@@ -54,15 +55,35 @@ export class Daemon {
     return Boolean(made?.[0]);
   }
 
+  /**
+   * The line of the next move, or null if no node is enabled.
+   * @param {Lab} lab
+   */
+  lineFor(lab) {
+    const daemon = field("daemon").value;
+    if (!OF_MANY.includes(daemon) || !lab.seen.flags) {
+      return `drive ${this.nextSeed()} 1`;
+    }
+    const { enabledNodes, neighbours } = lab.fed ? lab.look() : lab.seen;
+    const draw = chanceOf(daemon === "all" ? 0 : this.nextSeed());
+    const by = { neighbours, draw, probability: this.percent / 100 };
+    return enabledNodes.length === 0 ? null : `step ${chosenBy(daemon, enabledNodes, by).join(" ")}`;
+  }
+
+  /** How probable a node's move is, in percent. */
+  get percent() {
+    return Math.min(100, Math.max(LEAST_PERCENT, Number(field("percent").value) || LEAST_PERCENT));
+  }
+
   stepNow() {
     const { play } = this;
     this.run(false);
     this.stretch = false;
     if (this.stepAll()) {
       play.work.acted();
-      play.show(1);
+      play.show();
     } else if (play.labs.every((lab) => lab.seen.enabledCount === 0)) {
-      play.story.say("Nothing is enabled: all is stable.");
+      play.story.say("No node is enabled: the network is silent.");
     }
     this.stretch = false;
   }
@@ -77,7 +98,7 @@ export class Daemon {
     byId("run").textContent = on ? "❚❚ pause" : "▶ run";
     byId("run").setAttribute("aria-pressed", String(on));
     this.play.story.runs = on;
-    this.play.tell(0);
+    this.play.tell();
   }
 
   scramble() {

@@ -90,7 +90,7 @@ class Collected {
   get network() {
     const names = [...this.names.keys()];
     if (names.length > MOST_NODES || this.links.size > MOST_LINKS) {
-      const size = `${grouped(names.length)} nodes and ${grouped(this.links.size)} links`;
+      const size = `${grouped(names.length)} nodes and ${grouped(this.links.size)} edges`;
       throw new GraphFault(`it has ${size}, and this page draws ${MOST_NODES} and ${
         grouped(MOST_LINKS)} at most: the Python client takes it`);
     }
@@ -227,7 +227,7 @@ function nodeLink(text) {
   }
   if ((told.directed ?? false) !== false || (told.multigraph ?? false) !== false) {
     throw new GraphFault(
-      `it is told to be a ${told.directed ? "directed graph" : "multigraph"}, and a network's links are neither`);
+      `it is told to be a ${told.directed ? "directed graph" : "multigraph"}, and a network's edges are neither`);
   }
   const found = new Collected();
   for (const [at, node] of told.nodes.entries()) {

@@ -3,6 +3,7 @@ import {grouped} from "../numbers.mjs";
 import {BAD_LINE, LOG_FULL, Session} from "../rudekpi/engine.mjs";
 import {EngineFault} from "../rudekpi/errors.mjs";
 import {resumed} from "../rudekpi/resumption.mjs";
+import {whyNoCommand} from "../script_words.mjs";
 import {reachOf} from "./halo.mjs";
 import {Seen} from "./seen.mjs";
 
@@ -24,15 +25,25 @@ function quoted(name) {
   return /^[\w.][\w.-]*$/.test(name) ? name : `'${name.replace(/^-/, "./-").replaceAll("'", "'\\''")}'`;
 }
 
-/** A line that was not carried out. `line` is its number from 1, `text` the line. */
+/** @param {string} text */
+function cut(text) {
+  return text.length > LONGEST_SHOWN ? `${text.slice(0, LONGEST_SHOWN)} …` : text;
+}
+
+/**
+ * A line that was not carried out. `line` is its number from 1, `text` the line, `reason` the words for a
+ * writer whose line is no command.
+ */
 export class BadLine extends Error {
   /**
    * @param {number} number
    * @param {string} text
    * @param {string} why
+   * @param {string | null} reason
    */
-  constructor(number, text, why) {
-    super(`line ${number} ${why}: ${text.length > LONGEST_SHOWN ? `${text.slice(0, LONGEST_SHOWN)} …` : text}`);
+  constructor(number, text, why, reason = null) {
+    super(reason === null ? `line ${number} ${why}: ${cut(text)}` : `line ${number}: ${reason}`);
+    this.reason = reason;
     this.line = number;
     this.text = text;
     this.why = why;
@@ -104,7 +115,7 @@ export class Lab {
   faultOf(line, wrong) {
     const status = wrong instanceof EngineFault ? wrong.status : 0;
     if (status === BAD_LINE) {
-      return this.bad(line, "is no command");
+      return this.bad(line, "is no command", whyNoCommand(new TextEncoder().encode(line)));
     }
     if (status !== LOG_FULL) {
       return wrong;
@@ -135,9 +146,10 @@ export class Lab {
   /**
    * @param {string} line
    * @param {string} why
+   * @param {string | null} reason
    */
-  bad(line, why) {
-    return new BadLine(this.lines.length + 1, line, why);
+  bad(line, why, reason = null) {
+    return new BadLine(this.lines.length + 1, line, why, reason);
   }
 
   /** @param {string[]} lines */

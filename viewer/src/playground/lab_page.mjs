@@ -85,6 +85,7 @@ export class LabPage {
     byId("scramble").addEventListener("click", () => play.daemon.scramble());
     byId("undo").addEventListener("click", () => play.undo());
     byId("redo").addEventListener("click", () => play.redo());
+    field("daemon").addEventListener("change", () => this.showOdds());
     field("pace").addEventListener("change", () => (play.daemon.runner.speed = Number(field("pace").value)));
     /** @param {(zoom: import("../zoom.mjs").Zoom) => void} by */
     const zoom = (by) => play.panes.forEach((pane) => by(pane.zoom));
@@ -144,6 +145,7 @@ export class LabPage {
   enter(kept) {
     this.ended = new AbortController();
     this.nameNodes();
+    this.showOdds();
     listen(this.actions, LAB_KEYS, this.ended.signal);
     addEventListener("hashchange", () => this.openAddress(), { signal: this.ended.signal });
     if (this.play.labs.length === 0) {
@@ -153,6 +155,11 @@ export class LabPage {
         this.openAddress();
       }
     }
+  }
+
+  /** Shows the probability to the daemon that has one. */
+  showOdds() {
+    byId("odds").hidden = field("daemon").value !== "chance";
   }
 
   leave() {

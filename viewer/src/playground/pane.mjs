@@ -128,17 +128,17 @@ export class Pane {
     this.meter();
     const quiet = seen.enabledCount === 0;
     this.parts.state.textContent =
-      quiet ? `✓ stable, ${counted(seen.pairCount, "pair")}` : `${grouped(seen.enabledCount)} may move`;
+      quiet ? `✓ stable, ${counted(seen.pairCount, "married pair")}` : `${grouped(seen.enabledCount)} enabled`;
     this.parts.state.classList.toggle("stable", quiet);
   }
 
   meter() {
-    const { movesLeft, epochBound, spent } = this.lab.seen;
+    const { movesLeft, epochBound, spent, enabledCount } = this.lab.seen;
     const shares = sharesOf(spent, movesLeft, epochBound);
     this.parts.spent.style.width = `${100 * shares.spent}%`;
     this.parts.left.style.width = `${100 * shares.left}%`;
-    this.parts.numbers.textContent =
-      `spent ${grouped(spent)}, at most ${grouped(movesLeft)} to come; bound ${grouped(epochBound)}`;
+    const left = enabledCount === 0 ? "silent" : `at most ${grouped(movesLeft)} to come`;
+    this.parts.numbers.textContent = `spent ${grouped(spent)}, ${left}; bound ${grouped(epochBound)}`;
   }
 
   note() {

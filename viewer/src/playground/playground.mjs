@@ -131,7 +131,8 @@ export class Playground {
     // names without a given place; each has one in a layout
     this.placeless =
       new Set(plan.layout ? [] : Array.from({ length: names - plan.nodes }, (_, at) => plan.nodes + 1 + at));
-    byId("panes").classList.toggle("two", labs.length > 1);
+    // two networks have a longer story
+    ["panes", "invite"].forEach((part) => byId(part).classList.toggle("two", labs.length > 1));
     this.panes = labs.map((lab, at) => this.paneOf(lab, at));
     byId("which").hidden = labs.length < 2;
     document.body.classList.toggle("flagless", labs.every((lab) => !lab.seen.flags));
@@ -140,7 +141,7 @@ export class Playground {
     this.chooser.choose(null);
     this.story.open();
     this.placeNewcomers();
-    this.show(0);
+    this.show();
   }
 
   /**
@@ -254,10 +255,10 @@ export class Playground {
       this.draw();
       return;
     }
-    this.story.breaks(line, labs.reduce((most, lab) => Math.max(most, lab.seen.movesLeft), 0));
+    this.story.breaks(line, new Map(labs.map((lab) => [lab.rules, lab.seen.movesLeft])));
     this.mark(lastEntry(texts[0]));
     this.placeNewcomers();
-    this.show(0);
+    this.show();
   }
 
   /**
@@ -289,15 +290,15 @@ export class Playground {
     this.remember();
     if (this.attempt(() => this.feed(line, [lab]))) {
       this.work.acted();
-      this.show(1);
+      this.show();
     }
   }
 
-  /** @param {number} moves */
-  tell(moves) {
+  tell() {
     if (this.labs.length > 0) {
-      const enabled = this.labs.reduce((sum, { seen }) => sum + seen.enabledCount, 0);
-      this.story.goesOn(moves, enabled, this.lab.seen.pairCount);
+      const panels =
+        this.labs.map(({ rules, seen }) => ({ rules, moves: seen.spent, isSilent: seen.enabledCount === 0 }));
+      this.story.goesOn(panels, this.lab.seen.pairCount);
     }
   }
 
@@ -328,7 +329,7 @@ export class Playground {
     this.story.open();
     this.texts.drop();
     this.placeNewcomers();
-    this.show(0);
+    this.show();
     this.story.say(`${done}: ${counted(Math.abs(before - this.lab.lines.length), "line")} of the script.`);
   }
 
@@ -351,7 +352,7 @@ export class Playground {
     this.work.acted();
     this.placeNewcomers();
     this.story.open();
-    this.show(0);
+    this.show();
     this.story.say(`Played: ${counted(lines.length, "line")}.`);
   }
 
@@ -421,15 +422,12 @@ export class Playground {
     labs.filter((lab) => lab.fed).forEach((lab) => lab.look());
   }
 
-  /**
-   * Reads all networks from the engine, after `moves` moves, and shows them.
-   * @param {number} moves
-   */
-  show(moves) {
+  /** Reads all networks from the engine, and shows them. */
+  show() {
     this.look(this.labs);
     this.panes.forEach((pane) => pane.note());
     this.draw();
-    this.tell(moves);
+    this.tell();
   }
 
   draw() {

@@ -48,7 +48,7 @@ export class Seen extends Machine {
     } else {
       this.follow(text);
     }
-    this.left = session.movesLeft();
+    this.left = this.enabledCount === 0 ? 0 : session.movesLeft();
     this.restless = this.here.map((present, v) => (present && !session.isAtRest(v) ? 1 : 0));
   }
 

@@ -85,7 +85,7 @@ function readNetwork(text, name, format, rules) {
     source,
     numbers: [],
     rules,
-    said: `Opened: the ${format} has ${counted(nodes, "node")} and ${counted(links.length, "link")}${numbered}.`
+    said: `Opened: the ${format} has ${counted(nodes, "node")} and ${counted(links.length, "edge")}${numbered}.`
   };
 }
 

@@ -1,16 +1,16 @@
-// Describes the last events: the change, how many moves until all was stable, and how many were possible.
+// Describes the last events: the change, how many moves came until silence, and how many were possible.
 import {counted, grouped} from "../numbers.mjs";
 
 // how many milliseconds another message stays
 const HELD = 2500;
 /** @type {Record<string, (words: string[]) => string>} */
 const BROKEN = {
-  unlink: ([v, w]) => `The link ${v} – ${w} is cut.`,
-  link: ([v, w]) => `A link ${v} – ${w} came.`,
+  unlink: ([v, w]) => `The edge ${v} – ${w} is cut.`,
+  link: ([v, w]) => `The edge ${v} – ${w} came.`,
   point: ([v, w]) => (w === "-" ? `Node ${v} points nowhere now.` : `Node ${v} points at ${w} now.`),
   flag: ([v, bit]) => `The flag of node ${v} is ${bit} now.`,
   join: ([v]) => `Node ${v} came.`,
-  leave: ([v]) => `Node ${v} is gone, with its links.`,
+  leave: ([v]) => `Node ${v} is gone, with its edges.`,
   scramble: ([, count]) => `${counted(Number(count), "register")} scrambled.`,
 };
 
@@ -23,6 +23,18 @@ export function toldOf(line) {
   return BROKEN[kind]?.(words) ?? "";
 }
 
+/**
+ * A panel's rules, the moves since its last edit or fault as the engine counts them, and whether no rule is
+ * enabled.
+ * @typedef {{ rules: RuleName, moves: number, isSilent: boolean }} Panel
+ */
+
+/** @type {Record<RuleName, string>} */
+const WHOSE = {
+  hh: "Hsu and Huang",
+  manne: "Manne and others"
+};
+
 export class Story {
   /** @param {Element} place */
   constructor(place) {
@@ -33,53 +45,82 @@ export class Story {
 
   open() {
     this.broken = "";
-    this.moves = 0;
-    this.most = 0;
+    /**
+     * The panels that the last change concerns, and the most moves that could come after it in each.
+     * @type {Map<RuleName, number>}
+     */
+    this.most = new Map();
     this.opening = true;
     this.until = 0;
   }
 
   /**
-   * Reports a change, after which at most `most` moves can come.
+   * Reports a change, and for each panel how many moves can come at most after it.
    * @param {string} line
-   * @param {number} most
+   * @param {Map<RuleName, number>} most
    */
   breaks(line, most) {
     this.broken = toldOf(line);
-    this.moves = 0;
     this.most = most;
     this.opening = false;
     this.until = 0;
   }
 
   /**
-   * @param {number} moves
-   * @param {number} enabled
+   * @param {Panel[]} panels
    * @param {number} pairs
    */
-  goesOn(moves, enabled, pairs) {
-    this.moves += moves;
-    if (performance.now() >= this.until) {
-      this.write(enabled === 0 ? this.settled(pairs) : this.mending(), false);
+  goesOn(panels, pairs) {
+    if (performance.now() < this.until) {
+      return;
+    }
+    const isSilent = panels.every((panel) => panel.isSilent);
+    if (this.opening) {
+      this.write(isSilent ? this.opened(pairs) : this.begun(), false);
+    } else {
+      const concerned = panels.filter(({ rules }) => this.most.has(rules));
+      this.write(`${this.broken} ${isSilent ? this.mended(concerned) : this.mending(concerned)}`, false);
     }
   }
 
-  mending() {
-    if (this.opening) {
-      return this.runs ? "The nodes are looking for partners …" : "The nodes wait: run lets them look for partners.";
-    }
-    return `${this.broken} Mending: ${counted(this.moves, "move")} so far, of at most ${grouped(this.most)}.`;
+  begun() {
+    return this.runs ? "The nodes are looking for partners …" : "The nodes wait: run lets them look for partners.";
   }
 
   /** @param {number} pairs */
-  settled(pairs) {
-    if (this.opening) {
-      return `${counted(pairs, "pair")}, and nothing is left to do. Now break something.`;
+  opened(pairs) {
+    return `${counted(pairs, "married pair")}, and nothing is left to do. Now break something.`;
+  }
+
+  /** @param {Panel[]} panels */
+  mending(panels) {
+    const [{ rules, moves }] = panels;
+    if (panels.length === 1) {
+      return `Mending: ${counted(moves, "move")} so far, of at most ${grouped(this.most.get(rules))}.`;
     }
-    if (this.moves === 0) {
-      return `${this.broken} Nobody had to move.`;
+    return `Mending: ${this.each(panels, (told, most) => `${told} so far, of at most ${most}`)}.`;
+  }
+
+  /** @param {Panel[]} panels */
+  mended(panels) {
+    if (panels.every(({ moves }) => moves === 0)) {
+      return "Nobody had to move.";
     }
-    return `${this.broken} Mended in ${counted(this.moves, "move")}; at most ${grouped(this.most)} could have come.`;
+    const [{ rules, moves }] = panels;
+    if (panels.length === 1) {
+      return `Mended in ${counted(moves, "move")}; at most ${grouped(this.most.get(rules))} could have come.`;
+    }
+    return `Mended: ${this.each(panels, (told, most) => `in ${told}, of at most ${most}`)}.`;
+  }
+
+  /**
+   * @param {Panel[]} panels
+   * @param {(moves: string, most: string) => string} told
+   */
+  each(panels, told) {
+    const parts = panels.map(
+      ({ rules, moves }) => `${WHOSE[rules]} ${told(counted(moves, "move"), grouped(this.most.get(rules)))}`);
+    return parts.join("; ");
   }
 
   /**

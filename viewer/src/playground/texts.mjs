@@ -29,7 +29,7 @@ export function linesOf(text) {
  * @param {number[]} numbers
  */
 export function renumbered(wrong, numbers) {
-  return new BadLine(numbers[wrong.line - 1] ?? wrong.line, wrong.text, wrong.why);
+  return new BadLine(numbers[wrong.line - 1] ?? wrong.line, wrong.text, wrong.why, wrong.reason);
 }
 
 /**

@@ -22,7 +22,7 @@ import {linesBetween} from "./halo.mjs";
  * @type {Record<ToolName, { hint: string, draws: boolean }>}
  */
 export const TOOLS = {
-  cut: {hint: "Click a link to cut it.", draws: false},
+  cut: {hint: "Click an edge to cut it.", draws: false},
   link: {hint: "Drag from one node to another to link them.", draws: true},
   point:
     {hint: "Drag from a node to its neighbour: it points there. Click a node twice: it points nowhere.", draws: true},

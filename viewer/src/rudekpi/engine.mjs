@@ -27,9 +27,9 @@ const TOLD_ROWS = 4;
 const COUNTS = 6;
 const DESK_WORDS = 12;
 const WORD_BYTES = 4;
-const ROW_WORDS = 3;
+export const ROW_WORDS = 3;
 const NO_ROWS = new Uint32Array(0);
-// the first question for a reach has room for this many names
+// the first question for a list has room for this many items
 const FEW = 64;
 const WIDE_FEW = BigInt(FEW);
 // the edits and faults, whose calls are looked up once
@@ -157,6 +157,14 @@ export class Engine {
     return this.words()[this.desk + TOLD_ROWS];
   }
 
+  /** What a question for a node's registers wrote; the pointer 0 is null. */
+  get nodeTold() {
+    const words = this.words();
+    // two bytes after the pointer, each 0 or 1
+    const written = words[this.desk + 1];
+    return { pointer: words[this.desk], flag: (written & 255) !== 0, present: ((written >> 8) & 255) !== 0 };
+  }
+
   statusTold() {
     const words = this.words();
     const { desk } = this;
@@ -231,12 +239,22 @@ export class Engine {
    * @param {number[]} numbers
    */
   reachOf(slot, word, numbers) {
-    const ask = this.reaches[word];
-    const first = numbers[0];
+    return this.listed(slot, this.reaches[word], numbers);
+  }
+
+  /**
+   * The items of a call that lists all of them if there is room, each of `width` numbers. Throws `EngineFault`
+   * if the call fails.
+   * @param {bigint} slot
+   * @param {(...words: (bigint | number)[]) => any} ask
+   * @param {number[]} numbers
+   * @param {number} width
+   */
+  listed(slot, ask, numbers, width = 1) {
     for (let room = FEW, wide = WIDE_FEW;;) {
-      const at = this.taken.of(WORD_BYTES * room);
-      const status = numbers.length === 1 ? ask(slot, first, at, wide, this.told) :
-                                            ask(slot, first, numbers[1], at, wide, this.told);
+      const at = this.taken.of(WORD_BYTES * width * room);
+      const status =
+        numbers.length === 1 ? ask(slot, numbers[0], at, wide, this.told) : ask(slot, ...numbers, at, wide, this.told);
       if (status !== DONE) {
         throw new EngineFault(status);
       }
@@ -245,7 +263,7 @@ export class Engine {
       if (found <= room) {
         const begin = Number(at) / WORD_BYTES;
         const list = [];
-        for (let place = begin; place < begin + found; place += 1) {
+        for (let place = begin; place < begin + width * found; place += 1) {
           list.push(words[place]);
         }
         return list;
@@ -329,7 +347,7 @@ export class Session {
     return (this.engine.entry & 255) !== 0;
   }
 
-  /** The most moves that can come before the next edit or fault. */
+  /** The most moves that can come before the next edit or fault, 0 in silence. */
   movesLeft() {
     this.hear(this.calls.rudekpi_moves_left(this.slot, this.engine.told));
     return this.engine.entry;

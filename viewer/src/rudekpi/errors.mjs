@@ -64,6 +64,18 @@ export class Damaged extends RudekpiError {
   }
 }
 
+export class BadView extends RudekpiError {
+  /**
+   * @param {string} fault
+   * @param {number | null} node
+   */
+  constructor(fault, node) {
+    super(`no state shows this at a node: ${fault}${node === null ? "" : ` (${node})`}`);
+    this.fault = fault;
+    this.node = node;
+  }
+}
+
 /**
  * Why a session did not carry out a call, as the engine reports it. A network turns this into an error of its
  * own.

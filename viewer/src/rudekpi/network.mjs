@@ -2,7 +2,7 @@
 import {readBase} from "../transcript.mjs";
 import {bytesOf, summaryOf} from "./audits.mjs";
 import {numbersOfEdit, whyRefused} from "./costs.mjs";
-import {DONE, Engine, inUse, LOG_FULL, NO_MEMORY, NO_SESSION, NOT_SILENT, REFUSED, RULE_SET_NAMES, Session} from "./engine.mjs";
+import {DONE, Engine, inUse, LOG_FULL, NO_MEMORY, NO_SESSION, NOT_SILENT, REFUSED, ROW_WORDS, RULE_SET_NAMES, Session} from "./engine.mjs";
 import {Ended, EngineFault, MemoryError, NoReply, Refused} from "./errors.mjs";
 import {MOST_NODES, MOST_TURNS, Names, numberWithin, seedOf, shown} from "./names.mjs";
 import {baseOf, enabledOfRows, faultOfLine, listWith, matchingOfRows, movesOfLine, movesOfRows, REFUSALS, Wish} from "./replies.mjs";
@@ -71,6 +71,13 @@ export class Network {
   #keeps;
   /** @type {string[]} */
   #parts = [];
+  /**
+   * The parts of a transcript that was ended by `renumber`, until it is returned.
+   * @type {string[]}
+   */
+  #endedParts = [];
+  /** After a renumbering, how many bytes of the unread text end the transcript so far. */
+  #ending = 0;
   /** How many entries and rows have come since the text was last taken. */
   #unread = 0;
   /**
@@ -365,7 +372,7 @@ export class Network {
   }
 
   restless() {
-    return this.present.filter((node) => !this.isAtRest(node));
+    return this.#named(this.#listed(this.#calls.rudekpi_restless));
   }
 
   movesLeft() {
@@ -374,36 +381,51 @@ export class Network {
   }
 
   get present() {
-    const { here } = this.#look();
-    return this.nodes.filter((_, at) => here[at + 1] === 1);
+    return this.#named(this.#listed(this.#calls.rudekpi_nodes));
   }
 
   get edges() {
-    const { ends } = this.#look();
+    const rows = this.#listed(this.#calls.rudekpi_edges, [], ROW_WORDS);
     return Array.from(
-      { length: ends.length / 2 },
-      (_, at) => /** @type {[Name, Name]} */ ([this.nameOf(ends[2 * at]), this.nameOf(ends[2 * at + 1])]));
+      { length: rows.length / ROW_WORDS },
+      (_, at) => /** @type {[Name, Name]} */ (this.#named([rows[ROW_WORDS * at], rows[ROW_WORDS * at + 2]])));
   }
 
   /** @param {Name} node */
   neighbours(node) {
-    const number = this.#presentNumber(node);
-    const near = [];
-    const { ends } = this.#look();
-    for (let at = 0; at < ends.length; at += 2) {
-      const [low, high] = [ends[at], ends[at + 1]];
-      if (low === number || high === number) {
-        near.push(low === number ? high : low);
-      }
+    const near = this.#listed(this.#calls.rudekpi_neighbours, [this.numberOf(node)]);
+    if (near.length === 0) {
+      // an absent node has none either
+      this.registers(node);
     }
-    return near.sort((a, b) => a - b).map((other) => this.nameOf(other));
+    return this.#named(near);
   }
 
   /** @param {Name} node */
   registers(node) {
-    const number = this.#presentNumber(node);
-    const { pointers, flags } = this.#look();
-    return { pointer: this.#names.named(pointers[number]), flag: flags[number] === 1 };
+    this.#asked(this.#calls.rudekpi_registers(this.#slot, this.numberOf(node), this.#told));
+    const { pointer, flag, present } = this.#engine.nodeTold;
+    if (!present) {
+      throw new RangeError(`node ${shown(node)} is not present`);
+    }
+    return { pointer: this.#names.named(pointer), flag };
+  }
+
+  renumber() {
+    this.#collect();
+    const status = this.#calls.rudekpi_session_renumber(this.#slot, this.#told);
+    if (status !== DONE) {
+      this.#fail(status, "renumber");
+    }
+    this.#ending = this.#engine.entry;
+    try {
+      this.#collect();
+    } catch (wrong) {
+      throw wrong instanceof MemoryError ? new NoReply(0, "the entries are numbered anew, up to") : wrong;
+    }
+    const ended = this.#endedParts.join("");
+    this.#endedParts = [];
+    return ended;
   }
 
   transcript() {
@@ -515,7 +537,13 @@ export class Network {
   #collect() {
     if (this.#slot !== this.#engine.nowhere) {
       this.#unread = 0;
-      this.#parts.push(this.#session.read());
+      const text = this.#session.read();
+      if (this.#ending > 0) {
+        this.#endedParts.push(...this.#parts, text.slice(0, this.#ending));
+        this.#parts = [];
+      }
+      this.#parts.push(text.slice(this.#ending));
+      this.#ending = 0;
     }
   }
 
@@ -568,14 +596,17 @@ export class Network {
   }
 
   /**
-   * The number of a present node. Throws a `RangeError` for any other node.
-   * @param {Name} node
+   * The items of a call that lists all of them, each of `width` numbers.
+   * @param {(...words: (bigint | number)[]) => any} call
+   * @param {number[]} numbers
+   * @param {number} width
    */
-  #presentNumber(node) {
-    const number = this.numberOf(node);
-    if (!this.#look().here[number]) {
-      throw new RangeError(`node ${shown(node)} is not present`);
-    }
-    return number;
+  #listed(call, numbers = [], width = 1) {
+    return this.#ask(() => this.#engine.listed(this.#slot, call, numbers, width));
+  }
+
+  /** @param {number[]} numbers */
+  #named(numbers) {
+    return numbers.map((number) => this.#names.nameOf(number));
   }
 }
