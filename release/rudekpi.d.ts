@@ -164,6 +164,14 @@ export declare class Network {
   status(): Status;
   /** Writes the lines of a base into the transcript. These lines are no entry. */
   checkpoint(): Base;
+  /**
+   * Ends the transcript, and goes on in the same state with a new one, whose entries count from 1. Returns the
+   * transcript that ends, with the base of the state. The network's transcript then begins with the base of the
+   * same state, numbered 0; `audit` accepts both. A log takes 16,777,216 entries: called before it is full, this
+   * lets a network run for weeks. Throws `MemoryError` if memory runs out; then nothing has changed. With
+   * `NoReply` the network goes on anew, and the next `renumber` returns this text before its own.
+   */
+  renumber(): string;
 
   /** Returns a node's partner, or null. This and the following calls add no entry. */
   partner(node: Name): Name | null;
@@ -181,26 +189,56 @@ export declare class Network {
   reach(word: Disturbance, ...given: Name[]): Set<Name>;
   /** Whether a node stays still until an edit or a fault reaches it, whatever the daemon chooses. */
   isAtRest(node: Name): boolean;
-  /** The nodes that are not at rest. */
+  /** The nodes that are not at rest: only these may move before the next edit or fault. */
   restless(): Name[];
-  /** The most moves that can still come before the next edit or fault. */
+  /** The most moves that can still come before the next edit or fault, 0 in silence. */
   movesLeft(): number;
-  /**
-   * The nodes that are present. This call, `edges`, `neighbours` and `registers` look at the whole network if
-   * the network has changed.
-   */
+  /** The nodes that are present. */
   get present(): Name[];
   /** The edges, each with the node of the lower number first. */
   get edges(): [Name, Name][];
-  /** The neighbours of a node that is present. */
+  /** All neighbours of a present node. Throws `RangeError` for any other node. Looks at that node alone. */
   neighbours(node: Name): Name[];
-  /** The registers of a present node. */
+  /** The registers of a present node. Throws `RangeError` for any other node. Looks at that node alone. */
   registers(node: Name): Registers;
   /** Returns exactly what `console run` writes for the same commands. */
   transcript(): string;
   /** The audit's summary of the transcript. */
   audit(): Summary;
 }
+
+/** What a node of your own holds of itself, or of a neighbour: its pointer, at a name or null, and its flag. */
+export interface Held {
+  readonly pointer: number | null;
+  readonly flag: boolean;
+}
+
+/**
+ * What a node does by its rule, and its registers afterwards. `repair` is no rule of the machine: the node's
+ * pointer is at no neighbour, and becomes null.
+ */
+export interface LocalMove {
+  readonly rule: Rule | "repair";
+  readonly target: number | null;
+  readonly pointer: number | null;
+  readonly flag: boolean;
+}
+
+/**
+ * Returns what a node does by its rule, from what it holds alone; null if no rule is enabled. In every state of
+ * the machine that shows this at the node, the answer is what the machine does there. Names are 1 to 65,535.
+ * Throws `BadView` if no state shows this, and `RangeError` or `TypeError` for other values.
+ */
+export declare function localRule(
+  rules: RuleSet, own: Held & { readonly node: number }, neighbours: Map<number, Held>): LocalMove | null;
+
+/**
+ * Returns whether the machine may move a node by this rule, to this target; `update` and `abandon` have none.
+ * Throws as `localRule` does, and `BadView` for a pointer at no neighbour too.
+ */
+export declare function mayMove(
+  rules: RuleSet, own: Held & { readonly node: number }, neighbours: Map<number, Held>, rule: Rule,
+  target?: number | null): boolean;
 
 /** Returns the version of the engine, as `1.0.0`. */
 export declare function version(): string;
@@ -252,6 +290,16 @@ export declare class MemoryError extends RudekpiError {
 export declare class NoReply extends MemoryError {
   constructor(entry: number, what?: string);
   readonly entry: number;
+}
+
+/**
+ * No state of the machine shows what a node holds: the fault is `own-neighbour`, `points-at-itself`, or, of
+ * `mayMove` alone, `points-at-stranger`. `node` is the name that it is about, if there is one.
+ */
+export declare class BadView extends RudekpiError {
+  constructor(fault: string, node: number | null);
+  readonly fault: string;
+  readonly node: number | null;
 }
 
 /** A text is no transcript: the number of the first wrong line, and why that line is wrong. */

@@ -29,13 +29,14 @@ extern "C" {
 enum {
     RUDEKPI_DONE = 0,         /* success */
     RUDEKPI_BAD_LINE = 1,     /* the line is neither empty nor a command; nothing changed */
-    RUDEKPI_LOG_FULL = 2,     /* the log has 16,777,216 entries and takes no more */
+    RUDEKPI_LOG_FULL = 2,     /* the log has 16,777,216 entries and takes no more before rudekpi_session_renumber */
     RUDEKPI_NO_MEMORY = 3,    /* memory ran out; the session remains usable */
     RUDEKPI_NO_SESSION = 4,   /* the slot holds no session, or no audit */
     RUDEKPI_BAD_ARGUMENT = 5, /* an argument is out of range; nothing changed */
     RUDEKPI_REFUSED = 6,      /* the machine refused the event, and an entry says so; the network is unchanged */
     RUDEKPI_DAMAGED = 7,      /* the bytes are no transcript; those fed to an audit, whatever follows */
-    RUDEKPI_NOT_SILENT = 8    /* a rule is enabled, and the call needs a silent network; nothing changed */
+    RUDEKPI_NOT_SILENT = 8,   /* a rule is enabled, and the call needs a silent network; nothing changed */
+    RUDEKPI_NOT_SHOWN = 9     /* no state of the machine shows what a node holds */
 };
 
 /* The rule sets: Hsu and Huang (1992), one enabled node moves at a time; Manne, Mjelde, Pilard and Tixeuil
@@ -206,6 +207,16 @@ uint32_t rudekpi_checkpoint(struct rudekpi_slot *slot, struct rudekpi_told *told
  * DONE; NO_SESSION. */
 uint32_t rudekpi_transcript(struct rudekpi_slot *slot, bool keeps);
 
+/* Numbers the entries from 1 again: a session of any length never meets a full log if this is called before
+ * the log is full, or then. Appends two bases to the session's text. The first is the base of the state, as
+ * rudekpi_checkpoint writes it, and ends the transcript so far. The second is the base of the same state with
+ * the number 0, and begins the next transcript. The network and its moves spent stay as they are, and the next
+ * entry is 1. `ended` becomes how many bytes of the unread text end the first transcript: the bytes after them
+ * begin the next one. An audit accepts both. Without a kept transcript there is no text, and `ended` is 0.
+ * DONE; NO_MEMORY: nothing changed; NO_SESSION. `ended` is 0 if the status is not DONE. Two looks at all names
+ * and edges. */
+uint32_t rudekpi_session_renumber(struct rudekpi_slot *slot, size_t *ended);
+
 /* The calls from here to rudekpi_moves_left only ask: they change nothing in the network and add no entry.
  * They return BAD_ARGUMENT for a name that is 0 or above 65,535; only a target may be 0, for null. The result
  * is written in each case: 0 or false if the status is not DONE.
@@ -214,10 +225,10 @@ uint32_t rudekpi_transcript(struct rudekpi_slot *slot, bool keeps);
  * DONE; NO_SESSION; BAD_ARGUMENT. */
 uint32_t rudekpi_partner(struct rudekpi_slot *slot, uint32_t node, uint32_t *partner);
 
-/* Writes the cost of an edit or a fault, in moves. If the event came at this moment, it could raise the charge,
- * and so the number of moves that may follow, by at most its cost. The cost is 0 if the machine would refuse
- * the event. The cost is computed from the registers and degrees of the nodes that the event touches (table in
- * docs/BOUNDS.md), whatever the size of the network.
+/* Writes the cost of an edit or a fault, in moves. If the event came at this moment, the charge would grow by
+ * at most its cost. The cost is 0 if the machine would refuse the event. The cost is computed from the
+ * registers and degrees of the nodes that the event touches (table in docs/BOUNDS.md), whatever the size of
+ * the network.
  * DONE; NO_SESSION; BAD_ARGUMENT. */
 uint32_t rudekpi_cost_of_link(struct rudekpi_slot *slot, uint32_t a, uint32_t b, uint32_t *cost);
 uint32_t rudekpi_cost_of_unlink(struct rudekpi_slot *slot, uint32_t a, uint32_t b, uint32_t *cost);
@@ -260,9 +271,41 @@ uint32_t rudekpi_reach_of_leave(struct rudekpi_slot *slot, uint32_t node, uint32
 uint32_t rudekpi_reach_of_point(struct rudekpi_slot *slot, uint32_t node, uint32_t target, uint32_t *out, size_t room, size_t *count);
 uint32_t rudekpi_reach_of_flag(struct rudekpi_slot *slot, uint32_t node, bool value, uint32_t *out, size_t room, size_t *count);
 
+/* A node's registers, and whether the node is present. An absent node has the pointer 0 and no flag. */
+struct rudekpi_node {
+    uint32_t pointer; /* 0 is null */
+    bool flag;
+    bool present;
+};
+
+/* Writes the registers of a node. A name above the session's `nodes` is absent. Three looks, whatever the size
+ * of the network and of the log.
+ * DONE; NO_SESSION; BAD_ARGUMENT. */
+uint32_t rudekpi_registers(struct rudekpi_slot *slot, uint32_t node, struct rudekpi_node *registers);
+
+/* Lists all neighbours of a node, ascending; an absent node has none. Copies their names to the start of `out`
+ * if there is room for all; otherwise `out` is unchanged. Writes how many they are to `count`; their names were
+ * copied if `count` is at most `room`. Takes no memory. Costs the node's degree.
+ * DONE; NO_SESSION; BAD_ARGUMENT. If the status is not DONE, `out` is unchanged. */
+uint32_t rudekpi_neighbours(struct rudekpi_slot *slot, uint32_t node, uint32_t *out, size_t room, size_t *count);
+
+/* Like rudekpi_neighbours, for all nodes that are present. Looks at each name.
+ * DONE; NO_MEMORY; NO_SESSION. */
+uint32_t rudekpi_nodes(struct rudekpi_slot *slot, uint32_t *out, size_t room, size_t *count);
+
+/* Like rudekpi_neighbours, for all nodes that are not at rest: only these may move before the next edit or
+ * fault. Looks at each name, and at the neighbours of nodes that point nowhere.
+ * DONE; NO_MEMORY; NO_SESSION. */
+uint32_t rudekpi_restless(struct rudekpi_slot *slot, uint32_t *out, size_t room, size_t *count);
+
+/* Like rudekpi_neighbours, for all edges, as rows: `node` is the lower end, `other` the higher end, `rule` is 0.
+ * The rows ascend by lower end, then by higher end. Looks at all names and edges.
+ * DONE; NO_MEMORY; NO_SESSION. */
+uint32_t rudekpi_edges(struct rudekpi_slot *slot, struct rudekpi_row *out, size_t room, size_t *count);
+
 /* Writes how many moves can still come before the next accepted edit or fault, whatever the daemon chooses:
- * at most the charge, and under RUDEKPI_HSU_HUANG also at most n*n/2 + n - 2 among n nodes, the half rounded
- * down. Looks at what has changed since the last such call or `status`.
+ * 0 if no rule is enabled, else at most the charge, and under RUDEKPI_HSU_HUANG also at most n*n/2 + n - 2
+ * among n nodes, the half rounded down. Looks at what has changed since the last such call or `status`.
  * DONE; NO_SESSION. */
 uint32_t rudekpi_moves_left(struct rudekpi_slot *slot, uint32_t *moves);
 
@@ -325,11 +368,56 @@ uint32_t rudekpi_audit_finish(struct rudekpi_audit_slot *slot, struct rudekpi_ve
 /* Ends the audit without a verdict and frees its memory. The slot may be empty before, and is so after. */
 void rudekpi_audit_free(struct rudekpi_audit_slot *slot);
 
+/* The rule of one node, for nodes of your own: docs/LOCAL.md. The calls from here on need no session and take
+ * no memory, so any thread may call them at any time.
+ *
+ * What a node holds of itself, or of a neighbour: names 1 to 65,535, and the registers. */
+struct rudekpi_record {
+    uint32_t node;
+    uint32_t pointer; /* 0 is null */
+    bool flag;        /* false under RUDEKPI_HSU_HUANG */
+};
+
+/* The move of a node, or the first fault of what the node holds. */
+struct rudekpi_local_move {
+    uint32_t rule;    /* RUDEKPI_UPDATE to RUDEKPI_ABANDON, RUDEKPI_REPAIR; 0: no rule is enabled */
+    uint32_t target;  /* the least allowed target of marry and seduce; else 0 */
+    uint32_t pointer; /* the registers to write; those that the node has if no rule is enabled */
+    bool flag;
+    uint32_t fault;   /* 0, or one of the following */
+    uint32_t at;      /* the name that the fault is about, or 0 */
+};
+enum {
+    RUDEKPI_NOT_ASCENDING = 1,     /* this neighbour is not above the one before it: out of order, or listed twice */
+    RUDEKPI_OWN_NEIGHBOUR = 2,     /* the node is listed among its own neighbours */
+    RUDEKPI_POINTS_AT_ITSELF = 3,  /* this neighbour points at itself */
+    RUDEKPI_POINTS_AT_STRANGER = 4 /* the node points at this name, which is no neighbour: of a repair alone */
+};
+/* No rule of the machine: the node's pointer is at no neighbour, as after a link went, and becomes null. */
+enum { RUDEKPI_REPAIR = 5 };
+
+/* Writes what a node does by its rule, from what it holds alone: `own`, and its neighbours' records, ascending
+ * by name. In every state of the machine that shows this at the node, `move` is what the machine's step of the
+ * node alone does. If no state shows it, `move` has the first fault. If that is the node's pointer at no
+ * neighbour, the status is DONE and `move` the repair; else the status is NOT_SHOWN. Whether the neighbours hold
+ * the same now is the caller's to ensure, as by locks.
+ * DONE; NOT_SHOWN; BAD_ARGUMENT for unknown rules, or a number out of range: all fields of `move` are then 0.
+ * Some passes over the neighbours. */
+uint32_t rudekpi_local_rule(uint32_t rules, const struct rudekpi_record *own, const struct rudekpi_record *neighbours,
+                            size_t length, struct rudekpi_local_move *move);
+
+/* Writes whether the machine may move the node by this rule, to this target: marry and seduce have a target,
+ * and for the others it is 0.
+ * DONE; NOT_SHOWN, also if the node needs a repair; BAD_ARGUMENT also for an unknown rule. `may` is false if the
+ * status is not DONE. */
+uint32_t rudekpi_may_move(uint32_t rules, const struct rudekpi_record *own, const struct rudekpi_record *neighbours,
+                          size_t length, uint32_t rule, uint32_t target, bool *may);
+
 /* The text of a status, in ASCII; "unknown" for an unknown number. */
 static inline const char *rudekpi_status_text(uint32_t status) {
     static const char *const texts[] = {"done",       "not a command", "the log is full", "memory was refused",
                                         "no session", "bad argument",  "refused",         "no transcript",
-                                        "not silent"};
+                                        "not silent", "shown by no state"};
     return status < sizeof texts / sizeof *texts ? texts[status] : "unknown";
 }
 
@@ -346,6 +434,14 @@ static inline const char *rudekpi_refusal_text(uint32_t refusal) {
 static inline const char *rudekpi_rule_text(uint32_t rule) {
     static const char *const texts[] = {"unknown", "update", "marry", "seduce", "abandon"};
     return rule < sizeof texts / sizeof *texts ? texts[rule] : "unknown";
+}
+
+/* The text of a fault of what a node holds; "unknown" for an unknown number. */
+static inline const char *rudekpi_view_fault_text(uint32_t fault) {
+    static const char *const texts[] = {"unknown", "the neighbours are not ascending by name, each once",
+                                        "the node is among its own neighbours", "a neighbour points at itself",
+                                        "the node points at a name that is no neighbour"};
+    return fault < sizeof texts / sizeof *texts ? texts[fault] : "unknown";
 }
 
 /* A verdict in the words of the program's `audit`; "unknown" for an unknown number. */

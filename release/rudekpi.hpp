@@ -51,7 +51,7 @@ class Refused : public std::runtime_error {
     Entry entry;
 };
 
-/* The log has 16,777,216 entries and takes no more. */
+/* The log has 16,777,216 entries and takes no more until the network is renumbered. */
 class LogFull : public std::runtime_error {
   public:
     LogFull() : std::runtime_error(rudekpi_status_text(RUDEKPI_LOG_FULL)) {}
@@ -83,6 +83,14 @@ struct Enabled {
 };
 
 using Pair = std::pair<Node, Node>;
+
+/* A node's pointer and flag, and whether the node is present. */
+struct Registers {
+    std::optional<Node> pointer;
+    bool flag;
+    bool present;
+};
+
 using Counts = rudekpi_counts;
 
 /* The verdict of an audit: the counts of a transcript, or the first wrong line and what is wrong with it. */
@@ -100,6 +108,32 @@ class Damaged : public std::runtime_error {
   public:
     explicit Damaged(const Verdict &verdict) : std::runtime_error("line " + std::to_string(verdict.line) + ": " + verdict.text()), verdict(verdict) {}
     Verdict verdict;
+};
+
+/* What a node of your own holds: its name, pointer and flag, or a neighbour's. */
+struct Record {
+    Node node;
+    std::optional<Node> pointer = {};
+    bool flag = false;
+};
+
+/* What a node does by its rule, and its registers afterwards. Without a rule it is a repair: the node's pointer
+ * is at no neighbour, and becomes null. */
+struct LocalMove {
+    std::optional<Rule> rule;
+    std::optional<Node> target;
+    std::optional<Node> pointer;
+    bool flag;
+};
+
+/* No state of the machine shows what a node holds: `fault` is one of RUDEKPI_NOT_ASCENDING and those after it,
+ * and `at` the name that it is about, if there is one. */
+class BadView : public std::invalid_argument {
+  public:
+    BadView(std::uint32_t fault, Node at)
+        : std::invalid_argument(rudekpi_view_fault_text(fault)), fault(fault), at(at ? std::optional<Node>(at) : std::nullopt) {}
+    std::uint32_t fault;
+    std::optional<Node> at;
 };
 
 namespace detail {
@@ -129,6 +163,19 @@ inline const std::uint8_t *bytes_of(std::string_view text) {
 
 inline void check(std::uint32_t status, const rudekpi_told &told = {}) {
     if (status != RUDEKPI_DONE) fail(status, told);
+}
+
+inline rudekpi_record record_of(const Record &it) {
+    return {it.node, it.pointer.value_or(0), it.flag};
+}
+
+/* The records of neighbours as C's rows, and at least one row, so that there is an address. */
+inline std::vector<rudekpi_record> rows_of(const std::vector<Record> &neighbours) {
+    std::vector<rudekpi_record> rows;
+    rows.reserve(neighbours.size() + 1);
+    for (const auto &it : neighbours) rows.push_back(record_of(it));
+    rows.push_back({});
+    return rows;
 }
 
 /* A slot at a fixed address, emptied by the destructor. */
@@ -238,8 +285,29 @@ class Network {
     bool is_at_rest(Node node) {
         return asked<bool>([&](auto it) { return rudekpi_is_at_rest(slot(), node, it); });
     }
+    Registers registers(Node node) {
+        auto found = asked<rudekpi_node>([&](auto it) { return rudekpi_registers(slot(), node, it); });
+        return {detail::node_or_null(found.pointer), found.flag, found.present};
+    }
+    /* All neighbours, all nodes that are present, and those not at rest, ascending. */
+    std::vector<Node> neighbours(Node node) {
+        return names([&](auto... it) { return rudekpi_neighbours(slot(), node, it...); });
+    }
+    std::vector<Node> nodes() {
+        return names([&](auto... it) { return rudekpi_nodes(slot(), it...); });
+    }
+    std::vector<Node> restless() {
+        return names([&](auto... it) { return rudekpi_restless(slot(), it...); });
+    }
+    /* The edges, each with its lower end first, ascending. */
+    std::vector<Pair> edges() {
+        std::vector<Pair> pairs;
+        for (const auto &row : listed<rudekpi_row>([&](auto... it) { return rudekpi_edges(slot(), it...); }))
+            pairs.emplace_back(row.node, row.other);
+        return pairs;
+    }
 
-    /* The cost, in moves, of an edit or a fault at this moment. */
+    /* The cost, in moves, of an edit or a fault at this moment: the charge grows by at most this. */
     std::uint32_t cost_of_link(Node a, Node b) {
         return asked<std::uint32_t>([&](auto it) { return rudekpi_cost_of_link(slot(), a, b, it); });
     }
@@ -320,6 +388,12 @@ class Network {
         return text;
     }
 
+    /* Numbers the entries from 1 again, in the same state. Returns how many bytes of the next transcript() end the
+     * transcript so far, with a base; the bytes after them begin the next transcript. */
+    std::size_t renumber() {
+        return asked<std::size_t>([&](auto it) { return rudekpi_session_renumber(slot(), it); });
+    }
+
     /* Decides whether the network keeps its text from here on. If `keeps` is false, drops the unread text. */
     void keep_transcript(bool keeps) {
         detail::check(rudekpi_transcript(slot(), keeps));
@@ -361,17 +435,54 @@ class Network {
         return cost;
     }
 
-    template <typename Call> std::vector<Node> names(Call call) {
+    template <typename Item, typename Call> std::vector<Item> listed(Call call) {
         std::size_t count = 0;
-        Node none = 0;
+        Item none{};
         detail::check(call(&none, std::size_t{0}, &count));
-        std::vector<Node> reached(count);
-        if (count) detail::check(call(reached.data(), reached.size(), &count));
-        return reached;
+        std::vector<Item> items(count);
+        if (count) detail::check(call(items.data(), items.size(), &count));
+        return items;
+    }
+
+    template <typename Call> std::vector<Node> names(Call call) {
+        return listed<Node>(call);
     }
 
     std::unique_ptr<rudekpi_slot, detail::Emptied<rudekpi_slot, rudekpi_session_free>> slot_;
 };
+
+/* Returns what a node does by its rule, from what it holds alone: its own record, and those of its neighbours,
+ * ascending by name. Empty if no rule is enabled. Needs no network, and any thread may call it. Throws BadView
+ * if no state of the machine shows this, and std::invalid_argument for a name out of range. */
+inline std::optional<LocalMove> local_rule(Rules rules, const Record &own, const std::vector<Record> &neighbours) {
+    auto me = detail::record_of(own);
+    auto rows = detail::rows_of(neighbours);
+    rudekpi_local_move move{};
+    auto status = rudekpi_local_rule(static_cast<std::uint32_t>(rules), &me, rows.data(), neighbours.size(), &move);
+    if (status == RUDEKPI_NOT_SHOWN) throw BadView(move.fault, move.at);
+    detail::check(status);
+    if (!move.rule) return std::nullopt;
+    auto rule = move.rule == RUDEKPI_REPAIR ? std::nullopt : std::optional<Rule>(static_cast<Rule>(move.rule));
+    return LocalMove{rule, detail::node_or_null(move.target), detail::node_or_null(move.pointer), move.flag};
+}
+
+/* Returns whether the machine may move a node by this rule, to this target; update and abandon have none.
+ * Throws as local_rule does, and BadView also if the node needs a repair. */
+inline bool may_move(Rules rules, const Record &own, const std::vector<Record> &neighbours, Rule rule,
+                     std::optional<Node> target = {}) {
+    auto me = detail::record_of(own);
+    auto rows = detail::rows_of(neighbours);
+    bool may = false;
+    auto status = rudekpi_may_move(static_cast<std::uint32_t>(rules), &me, rows.data(), neighbours.size(),
+                                   static_cast<std::uint32_t>(rule), target.value_or(0), &may);
+    if (status == RUDEKPI_NOT_SHOWN) {
+        rudekpi_local_move move{};
+        rudekpi_local_rule(static_cast<std::uint32_t>(rules), &me, rows.data(), neighbours.size(), &move);
+        throw BadView(move.fault, move.at);
+    }
+    detail::check(status);
+    return may;
+}
 
 /* Judges a transcript in memory. */
 inline Verdict audit(std::string_view transcript) {
