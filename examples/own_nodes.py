@@ -3,13 +3,16 @@
 
 Each node has its own registers and rules, while the world cuts links, removes nodes and writes registers.
 
-usage: examples/own_nodes.py [--rules hh|manne] [--events N] [--seed S] [--mistake low|stale] [--log FILE]
+usage: examples/own_nodes.py [--rules hh|manne] [--proved] [--events N] [--seed S] [--mistake low|stale]
+                             [--log FILE]
 
 A node moves after all its neighbours, and the node itself, have granted it their locks. Each grant carries
 the granter's registers. Then the node chooses its move by these copies, writes the move into the log, and
-releases all locks with its new registers. With --mistake one node breaks the rules: with `low` it seduces a
-neighbour below it, with `stale` it chooses by the copies that it had before it asked for the locks. The log
-is also written to FILE. If FILE is `-`, the log goes to standard output, and there is no verdict.
+releases all locks with its new registers. The rules are written in this file; with --proved the nodes ask
+rudekpi.local_rule, the proved rule of one node. With --mistake one node breaks the rules: with `low` it
+seduces a neighbour below it, with `stale` it chooses by the copies that it had before it asked for the
+locks. The log is also written to FILE. If FILE is `-`, the log goes to standard output, and there is no
+verdict.
 """
 
 from __future__ import annotations
@@ -85,9 +88,11 @@ class Peer:
 class Node(Peer):
     """A node's registers, its neighbours' last known ones, and the holder of its lock."""
 
-    def __init__(self, name: str, mail: dict[str, asyncio.Queue[Message]], rules: str, log: Log) -> None:
+    def __init__(
+        self, name: str, mail: dict[str, asyncio.Queue[Message]], rules: str, log: Log, is_proved: bool
+    ) -> None:
         super().__init__(name, mail)
-        self.rules, self.log = rules, log
+        self.rules, self.log, self.is_proved = rules, log, is_proved
         self.pointer: Optional[str] = None
         self.flag = False
         self.copies: dict[str, Held] = {}
@@ -146,9 +151,21 @@ class Node(Peer):
 
     def choose(self, near: dict[str, Held], chance: random.Random) -> Optional[dict[str, Any]]:
         """The register that the rules let the node write."""
+        if self.is_proved and self.mistake != "low":
+            return self.choose_proved(near)
         if self.rules == "hh":
             return self.choose_alone(near, chance)
         return self.choose_with_flag(near, chance)
+
+    def choose_proved(self, near: dict[str, Held]) -> Optional[dict[str, Any]]:
+        """By the proved rule of one node."""
+        from rudekpi import local_rule
+
+        made = local_rule(self.rules, me=self.name, pointer=self.pointer, flag=self.flag, neighbours=near)
+        # a link that goes takes the pointers with it, so only old copies need a repair
+        if made is None or made.rule == "repair":
+            return None
+        return {"flag": made.flag} if made.rule == "update" else {"pointer": made.pointer}
 
     def choose_alone(self, near: dict[str, Held], chance: random.Random) -> Optional[dict[str, Any]]:
         """By the rules of Hsu and Huang."""
@@ -249,10 +266,10 @@ class World(Peer):
         self.let_go(names)
 
 
-async def played(rules: str, events: int, seed: int, mistake: str) -> list[str]:
+async def played(rules: str, events: int, seed: int, mistake: str, is_proved: bool) -> list[str]:
     mail: dict[str, asyncio.Queue[Message]] = {}
     log, chance = Log(events), random.Random(seed)
-    nodes = {name: Node(name, mail, rules, log) for name in NODES}
+    nodes = {name: Node(name, mail, rules, log, is_proved) for name in NODES}
     nodes[ODD].mistake = mistake
     world = World(nodes, mail, log)
     peers: list[Any] = [*nodes.values(), world]
@@ -268,16 +285,19 @@ async def played(rules: str, events: int, seed: int, mistake: str) -> list[str]:
 
 
 def main() -> int:
-    parser = argparse.ArgumentParser(description=__doc__, formatter_class=argparse.RawDescriptionHelpFormatter)
+    parser = argparse.ArgumentParser(
+        allow_abbrev=False, description=__doc__, formatter_class=argparse.RawDescriptionHelpFormatter
+    )
     parser.add_argument("--rules", choices=("hh", "manne"), default="manne")
+    parser.add_argument("--proved", action="store_true")
     parser.add_argument("--events", type=int, default=10_000)
     parser.add_argument("--seed", type=int, default=1)
     parser.add_argument("--mistake", choices=("low", "stale"), default="")
     parser.add_argument("--log", metavar="FILE")
     given = parser.parse_args()
-    lines = asyncio.run(played(given.rules, given.events, given.seed, given.mistake))
+    lines = asyncio.run(played(given.rules, given.events, given.seed, given.mistake, given.proved))
     if given.log:
-        with open(1 if given.log == "-" else given.log, "w") as file:
+        with open(1 if given.log == "-" else given.log, "w", encoding="utf-8") as file:
             file.write("".join(f"{line}\n" for line in lines))
     if given.log == "-":
         return 0

@@ -13,7 +13,7 @@ A_LINE = 0.3
 def measured_seconds() -> dict[str, float]:
     """By crate, on one processor of a machine of 2026."""
     found = {}
-    with open(f"{os.path.dirname(os.path.abspath(__file__))}/build_seconds") as file:
+    with open(f"{os.path.dirname(os.path.abspath(__file__))}/build_seconds", encoding="utf-8") as file:
         for line in file:
             words = line.partition("#")[0].split()
             if words:

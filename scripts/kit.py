@@ -41,6 +41,6 @@ def load() -> types.ModuleType:
 
 def at_once() -> int:
     """How many checks to run: one a processor, if memory allows."""
-    with open("/proc/meminfo") as file:
+    with open("/proc/meminfo", encoding="utf-8") as file:
         free = int(re.findall(r"MemAvailable:\s+(\d+)", file.read())[0]) * 1024
     return max(1, min(len(os.sched_getaffinity(0)), int(free // 2_500_000_000)))

@@ -14,7 +14,7 @@ HEADERS = TOP / "include" / "rudekpi.h", TOP / "include" / "rudekpi.hpp"
 
 
 def version() -> str:
-    for line in (TOP / "crates" / "cli_args" / "src" / "command.rt").read_text().splitlines():
+    for line in (TOP / "crates" / "cli_args" / "src" / "command.rt").read_text(encoding="utf-8").splitlines():
         if ".version(" in line:
             return line.split('"')[1]
     return "0"
@@ -101,7 +101,7 @@ def put_beside(folder: pathlib.Path) -> None:
     for header in HEADERS:
         shutil.copyfile(header, folder / header.name)
     for name, lines in TEXTS.items():
-        (folder / name).write_text(lines())
+        (folder / name).write_text(lines(), encoding="utf-8")
     link(folder)
 
 

@@ -71,7 +71,7 @@ def keeping_toolchain(kit: str, folder: pathlib.Path, kept: pathlib.Path) -> pat
         (folder / "bin" / tool.name).symlink_to(tool.resolve())
     own = folder / "bin" / "clang"
     own.unlink()
-    own.write_text(COMPILER.format(kept=kept, clang=theirs / "bin" / "clang"))
+    own.write_text(COMPILER.format(kept=kept, clang=theirs / "bin" / "clang"), encoding="utf-8")
     own.chmod(0o755)
     return folder
 

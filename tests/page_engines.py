@@ -13,6 +13,7 @@ from typing import Callable, Iterator, Optional, Union
 
 from browser import Browser, BrowserFault, PageFault, browser_path
 from firefox import Firefox, firefox_path
+import page_keep
 import page_resume
 from page_hands import waited
 from page_lab import PLAYGROUND
@@ -108,6 +109,7 @@ def plays(pages: Pages, browser: AnyBrowser, name: str, width: Optional[int]) ->
     page_resume.in_engine(pages, browser, name, width)
     pages.expect(f"{name}: what going on complains of", browser.complaints, [])
     pages.expect(f"{name}: what going on fetches", browser.ask("fetched"), [])
+    page_keep.in_engine(pages, browser, name)
 
 
 def imports(pages: Pages, browser: AnyBrowser, name: str, address: str) -> None:

@@ -98,7 +98,7 @@ def budget_of(told: dict[str, str], rules: str) -> tuple[int, int]:
     nodes, charge = int(told["nodes"]), int(told["charge"])
     by_edges = 2 * int(told["edges"]) + WEIGHTS[rules] * nodes
     by_nodes = max(0, nodes * nodes // 2 + nodes - 2) if rules == "hh" else by_edges
-    return min(charge, by_nodes), min(by_edges, by_nodes)
+    return 0 if told["enabled"] == "0" else min(charge, by_nodes), min(by_edges, by_nodes)
 
 
 def agrees(pages: Pages, browser: Browser, name: str, rules: str = "hh") -> None:
@@ -128,7 +128,7 @@ def opens(pages: Pages, browser: Browser) -> None:
         browser.ask("present") >= 10,
         browser.ask("count", ".graph .pointer, .graph .edge.mutual") > 0,
     ]
-    pages.expect("within a second", said, ["Click a link to cut it.", True, True])
+    pages.expect("within a second", said, ["Click an edge to cut it.", True, True])
     pages.expect("it settles", settles(browser), True)
     pair = browser.ask("attribute", ".graph .edge.mutual", "data-ends").split("-")
     browser.click(*edge(browser, *pair))
@@ -283,7 +283,8 @@ def texts(pages: Pages, browser: Browser) -> None:
         "a line that is none",
         said,
         [
-            "The script was not played: line 2 is no command: <img src=x onerror=\"document.title = 'ran'\">.",
+            "The script was not played: line 2: `<img` is no command: they are link, unlink, point, flag, join, leave, "
+            "step, show, enabled, matching, status, checkpoint, drive, scramble.",
             TITLE,
             0,
         ],
@@ -391,7 +392,7 @@ def drops(pages: Pages, browser: Browser) -> None:
 def addresses(pages: Pages, browser: Browser) -> None:
     """A script in the address is played; a hostile one is reported, and runs nothing."""
     begin(browser, "#script=link+1+2;link+2+3;drive+7+100&rules=manne&nodes=4&present=3")
-    waited(browser, "✓ stable, 1 pair", "text", ".state")
+    waited(browser, "✓ stable, 1 married pair", "text", ".state")
     pages.expect("a script in the address", browser.ask("script"), ["link 1 2", "link 2 3", "drive 7 100"])
     agrees(pages, browser, "a script in the address", "manne")
     browser.click(*place(browser, "#text-link"))
@@ -402,14 +403,14 @@ def addresses(pages: Pages, browser: Browser) -> None:
     )
     for at, (words, said) in enumerate(
         [
-            ("script=%3Cimg+src=x+onerror=document.title='ran'%3E", "line 1 is no command: <img src"),
+            ("script=%3Cimg+src=x+onerror=document.title='ran'%3E", "line 1: `<img` is no command: they are"),
             ("script=link+1+2&nodes=99999", "nodes has to be a number from 0 to 600"),
             ("script=link+1+2&rules=<script>", "rules are hh or manne"),
             ("script=" + "link+1+2;" * 900, "is longer than 4000"),
             ("script=link+1+2&nodes=2&present=3", "present has to be"),
-            ("script=javascript:alert(1)", "line 1 is no command"),
-            ("script=%ff%00", "line 1 is no command"),
-            ("script=link+1+2;lnk&nodes=4", "line 2 is no command: lnk"),
+            ("script=javascript:alert(1)", "line 1: `javascript:alert(1)` is no command: they are"),
+            ("script=%ff%00", "line 1: there is the byte 0xef: a script is printable ASCII"),
+            ("script=link+1+2;lnk&nodes=4", "line 2: `lnk` is no command: `link` may be meant"),
         ]
     ):
         begin(browser, "#" + words)

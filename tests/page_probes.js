@@ -202,6 +202,14 @@ const probes = (() => {
     // the playground
     script: () => one("#text").value.trimEnd().split("\n"),
 
+    /** How many pixels lie between the end of an element and the beginning of one below it. */
+    gap: (upper, lower) => one(lower).getBoundingClientRect().top - one(upper).getBoundingClientRect().bottom,
+
+    /** Whether an element has a scroll bar from top to bottom. */
+    scrolls: (selector) => one(selector).scrollHeight > one(selector).clientHeight,
+
+    says: (selector, part) => one(selector).textContent.includes(part),
+
     /** The lines of the script that a hand made: no moves of a daemon, and no links. */
     acts: () => probes.script().filter((line) => !/^(drive|link) /.test(line)),
     scriptLength: () => probes.script().length,
@@ -250,7 +258,8 @@ const probes = (() => {
         all(".pointers > line", graph).filter(isShown).map((line) => line.dataset.pointer.split(">").map(Number));
       const numbers = graph.closest(".pane")
                         .querySelector(".numbers")
-                        .textContent.match(/[\d,]+/g)
+                        .textContent.replace("silent", "0")
+                        .match(/[\d,]+/g)
                         .map((word) => Number(word.replaceAll(",", "")));
       return {
         nodes: nodesOf(graph),
@@ -335,6 +344,15 @@ const probes = (() => {
       document.activeElement.dispatchEvent(
         new ClipboardEvent("paste", { clipboardData: data, bubbles: true, cancelable: true }));
     },
+
+    /** Chooses a file with a transcript of so many questions. */
+    openLong: (name, entries) => {
+      const lines = Array.from({ length: entries }, (_, at) => `${at + 1} show 1 = -\n`);
+      probes.openFile(name, `matching hh 2\n${lines.join("")}`);
+    },
+
+    /** Whether the page has kept a part: the network or the transcript. */
+    keeps: (part) => Boolean(JSON.parse(sessionStorage.getItem(`rudekpi ${location.pathname}`) ?? "{}")[part]),
 
     /** Chooses a file with this text. */
     openFile: (name, text) => {

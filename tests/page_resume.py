@@ -166,7 +166,7 @@ def texts(pages: Pages, browser: Browser) -> None:
     pages.expect("no link to it", (browser.ask("text", "#story"), browser.ask("address")), (said, ""))
     typed(browser, "link 1 3\ndrive 3 99\nlnk\n")
     browser.click(*place(browser, "#text-use"))
-    said = "The script was not played: line 3 is no command: lnk."
+    said = "The script was not played: line 3: `lnk` is no command: `link` may be meant."
     pages.expect("a bad line", browser.ask("text", "#text-wrong"), said)
     typed(browser, "link 1 3\ndrive 3 99\n")
     browser.click(*place(browser, "#text-use"))

@@ -39,6 +39,14 @@ GRAPHS = [
     ("path.metis", METIS, 3, [[1, 2], [2, 3]]),
     ("small.json", NODE_LINK, 3, [[1, 2], [2, 3]]),
 ]
+# what playground and player draw, in the same words
+SAME_SIGNS = ["a married pair", "a pointer", "enabled: Seduce, Marry, Abandon", "this edge went", "this edge came"]
+# lines that are no commands, and the Python client's words for why
+WHYS = [
+    ("link\t2 3", "there is a tab: words are separated by one space"),
+    ("link 2 99999", "99999 is not a node, which is 1 to 65535"),
+    ("lnk 2 3", "`lnk` is no command: `link` may be meant"),
+]
 NO_GRAPHS = [
     ("pairs.csv", "1,2\n2,3\n", "line 1 has a comma or semicolon", "1,2"),
     ("adjacency.txt", "1 2\n2 3 4 5\n", "line 2 is no edge", "2 3 4 5"),
@@ -54,7 +62,7 @@ NO_GRAPHS = [
         "names a node that is not there",
         "",
     ),
-    ("big.txt", "".join(f"{v} {v + 1}\n" for v in range(1, 700)), "it has 700 nodes and 699 links", ""),
+    ("big.txt", "".join(f"{v} {v + 1}\n" for v in range(1, 700)), "it has 700 nodes and 699 edges", ""),
 ]
 
 
@@ -68,7 +76,11 @@ def write(pages: Pages, name: str, text: str) -> str:
 def addresses(pages: Pages, browser: Browser) -> None:
     """A link that names an absent node opens, and sets the selectors; the page writes such links."""
     begin(browser, "#script=link+1+2;link+2+9;drive+3+9&nodes=4&rules=manne")
-    pages.expect("a link beyond the nodes", waited(browser, "✓ stable, 1 pair", "text", ".state"), "✓ stable, 1 pair")
+    pages.expect(
+        "a link beyond the nodes",
+        waited(browser, "✓ stable, 1 married pair", "text", ".state"),
+        "✓ stable, 1 married pair",
+    )
     agrees(pages, browser, "a link beyond the nodes", "manne")
     shown = [browser.ask("value", f"#{name}") for name in ("rules", "size", "preset")]
     pages.expect("what the selectors tell of a link", shown, ["manne", "4", "own"])
@@ -139,6 +151,8 @@ def looks(pages: Pages, browser: Browser) -> None:
     browser.open(pages.write(b"matching manne 3\n1 link 1 2 = ok\n2 step 1 = 1:seduce>2\n"))
     pages.expect("a played transcript", browser.ask("widest"), 200)
     pages.expect("pictures without a name there", browser.ask("nameless"), [])
+    played = browser.ask("text", "#legend")
+    pages.expect("words of the player's legend", [sign for sign in SAME_SIGNS if sign not in played], [])
     browser.window(1280, 900)
     begin(browser)
     pages.expect("pictures without a name", browser.ask("nameless"), [])
@@ -147,8 +161,7 @@ def looks(pages: Pages, browser: Browser) -> None:
     pages.expect("what it leads to", os.path.exists(os.path.join(os.path.dirname(PLAYGROUND), target)), True)
     browser.ask("choose", "#rules", "manne")
     legend = browser.ask("text", "#signs")
-    signs = ["a pair", "a pointer", "may move", "just moved", "chosen", "link was cut", "link came", "its flag is 1"]
-    signs += ["may still move", "only these may move"]
+    signs = [*SAME_SIGNS, "just moved", "chosen", "its flag is 1", "may still move", "only these may move"]
     lines = ["spent", "to come, at most", "bound"]
     pages.expect("what the legend lacks", [sign for sign in [*signs, *lines] if sign not in legend], [])
     pages.expect(
@@ -163,6 +176,31 @@ def looks(pages: Pages, browser: Browser) -> None:
         pages.expect(f"numbers of a {kind} on a phone are read", size >= 7, True)
     browser.window(1280, 900)
     pages.expect("complaints of looks", browser.complaints, [])
+
+
+def room(pages: Pages, browser: Browser) -> None:
+    """The command line covers nothing, also below a script's error; nothing has a scroll bar, also at 500
+    nodes with one of them chosen."""
+    for height in (900, 760, 640):
+        browser.window(1280, height)
+        fresh(browser, "path", 4)
+        for bad, _ in WHYS:
+            typed(browser, f"link 1 2\n{bad}\n")
+            browser.click(*place(browser, "#text-use"))
+            waited(browser, False, "isHidden", "#text-wrong")
+            gap = browser.ask("gap", "#words", "#signs")
+            pages.expect(f"{bad!r}: what is drawn lies below, {height} high", gap > 0, True)
+    browser.window(1280, 900)
+    for rules in ("hh", "manne"):
+        fresh(browser, "mesh", 500, rules)
+        found = [browser.ask("scrolls", part) for part in ("html", "#bench", "#scene")]
+        browser.click(*node(browser, 2))
+        found += [browser.ask("scrolls", part) for part in ("html", "#bench", "#scene")]
+        pages.expect(f"scroll bars at 500 nodes, {rules}", found, [False] * 6)
+        typed(browser, "link 1 2\nlnk 2 3\n")
+        browser.click(*place(browser, "#text-use"))
+        pages.expect(f"what is drawn lies below, {rules}", browser.ask("gap", "#words", "#signs") > 0, True)
+    pages.expect("complaints of room", browser.complaints, [])
 
 
 def sizes(pages: Pages, browser: Browser) -> None:
@@ -227,11 +265,15 @@ def opens(pages: Pages, browser: Browser) -> None:
     dropped(browser, write(pages, "bad.script", "link 1 2\n\nlnk 2 3\n"))
     waited(browser, "lnk 2 3", "text", "#refusal-line")
     pages.expect(
-        "a bad script", browser.ask(*REFUSED), "The script bad.script is refused: line 3 is no command: lnk 2 3."
+        "a bad script",
+        browser.ask(*REFUSED),
+        "The script bad.script is refused: line 3: `lnk` is no command: `link` may be meant.",
     )
     browser.ask("blur")
     browser.ask("paste", "link 1 2\nlink 2 3\ndrive 1 9\n")
-    pages.expect("a pasted script", waited(browser, "✓ stable, 1 pair", "text", ".state"), "✓ stable, 1 pair")
+    pages.expect(
+        "a pasted script", waited(browser, "✓ stable, 1 married pair", "text", ".state"), "✓ stable, 1 married pair"
+    )
     pages.expect("the refusal is gone", browser.ask("isHidden", "#refusal"), True)
     browser.ask("paste", "matching hh 2\n1 link 1 2 = ok\n")
     title = "hh: 2 nodes, 1 entry – Rudekpi"
@@ -351,13 +393,11 @@ def wrongs(pages: Pages, browser: Browser) -> None:
     for width, height in [(1280, 900), (360, 740)]:
         browser.window(width, height)
         fresh(browser, "path", 4)
-        typed(browser, "link 1 2\n\nlnk 2 3\nlink 3 4\n")
-        browser.click(*place(browser, "#text-use"))
-        pages.expect(
-            "what is wrong",
-            browser.ask("text", "#text-wrong"),
-            "The script was not played: line 3 is no command: lnk 2 3.",
-        )
+        for bad, why in WHYS:
+            typed(browser, f"link 1 2\n\n{bad}\nlink 3 4\n")
+            browser.click(*place(browser, "#text-use"))
+            said = browser.ask("text", "#text-wrong")
+            pages.expect(f"what is wrong with {bad!r}", said, f"The script was not played: line 3: {why}.")
         pages.expect(f"it is seen, {width} wide", browser.ask("isSeen", "#text-wrong"), True)
         pages.expect("the line is marked", browser.ask("selected", "#text"), "lnk 2 3")
         browser.call("Input.insertText", text="link 2 3")
@@ -385,7 +425,7 @@ def pictures(pages: Pages, browser: Browser) -> None:
 
 
 def use(pages: Pages, browser: Browser) -> None:
-    for part in [addresses, full, keys, looks, sizes, calm, opens, reloads, redoes, wrongs, pictures]:
+    for part in [addresses, full, keys, looks, room, sizes, calm, opens, reloads, redoes, wrongs, pictures]:
         try:
             part(pages, browser)
         except PageFault as wrong:

@@ -29,6 +29,7 @@ PATTERNS = (
     "README.md",
     "*.md",
     "docs/*.md",
+    "independent/*.md",
     "crates/*/src/**/*.rt",
     "include/*.h*",
     "viewer/**/*.mjs",

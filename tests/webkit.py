@@ -132,6 +132,9 @@ class WebKit:
     def open(self, path: str) -> None:
         self.call("POST", "/url", url=path if "://" in path else f"file://{path}")
 
+    def reload(self) -> None:
+        self.call("POST", "/refresh")
+
     def ask(self, probe: str, *words: Any) -> Any:
         script = f"{self.probes}\nreturn probes.{probe}(...arguments);"
         return self.call("POST", "/execute/sync", script=script, args=list(words))

@@ -40,6 +40,11 @@ static void edits_and_steps() {
     expect("matching", net.matching() == std::vector<rudekpi::Pair>{{2, 3}});
     expect("partner", net.partner(3) == 2u && !net.partner(1));
     expect("at rest", net.is_at_rest(1) && net.moves_left() == 0);
+    expect("views", net.neighbours(2) == std::vector<rudekpi::Node>{1, 3} && net.neighbours(4).empty() &&
+                        net.nodes() == std::vector<rudekpi::Node>{1, 2, 3} && net.restless().empty() &&
+                        net.edges() == std::vector<rudekpi::Pair>{{1, 2}, {2, 3}});
+    auto of_two = net.registers(2), of_four = net.registers(4);
+    expect("registers", of_two.pointer == 3u && of_two.present && !of_two.flag && !of_four.pointer && !of_four.present);
     auto counts = net.status();
     expect("status", counts.nodes == 3 && counts.edges == 2 && counts.pairs == 1 && counts.enabled == 0);
 }
@@ -136,6 +141,50 @@ static void resumptions() {
     expect("damaged", false);
 }
 
+static void rule_of_one_node() {
+    using rudekpi::BadView, rudekpi::local_rule, rudekpi::Record;
+    /* node 3 under Manne's rules: 7 points at it; without that it seduces the greatest open one above it */
+    auto made = local_rule(Rules::manne, {3}, {{5}, {7, 3, true}});
+    expect("marries", made && made->rule == Rule::marry && made->target == 7u && made->pointer == 7u && !made->flag);
+    made = local_rule(Rules::manne, {3}, {{5}, {7, {}, true}});
+    expect("seduces", made && made->rule == Rule::seduce && made->target == 5u && made->pointer == 5u);
+    made = local_rule(Rules::manne, {3, 7}, {{7, 3}});
+    expect("updates", made && made->rule == Rule::update && !made->target && made->pointer == 7u && made->flag);
+    expect("no rule", !local_rule(Rules::hsu_huang, {3}, {}) && !local_rule(Rules::manne, {3}, {{1}}));
+    made = local_rule(Rules::manne, {3, 8, true}, {{7}});
+    expect("repairs", made && !made->rule && !made->target && !made->pointer && made->flag);
+    expect("may move", rudekpi::may_move(Rules::hsu_huang, {3}, {{5}, {7}}, Rule::seduce, 7u) &&
+                           !rudekpi::may_move(Rules::hsu_huang, {3}, {{5}, {7}}, Rule::seduce, 9u) &&
+                           !rudekpi::may_move(Rules::hsu_huang, {3}, {}, Rule::abandon));
+    throws<std::invalid_argument>("a name of 0", [] { local_rule(Rules::manne, {0}, {}); });
+    throws<BadView>("itself", [] { local_rule(Rules::manne, {3}, {{3}}); });
+    throws<BadView>("a stranger", [] { rudekpi::may_move(Rules::manne, {3, 8}, {{7}}, Rule::abandon); });
+    try {
+        local_rule(Rules::manne, {3}, {{7}, {5}});
+    } catch (const BadView &it) {
+        expect("order", it.fault == RUDEKPI_NOT_ASCENDING && it.at == 5u);
+        return;
+    }
+    expect("out of order", false);
+}
+
+static void renumbering() {
+    Network net(Rules::hsu_huang, 2);
+    net.link(1, 2);
+    net.step({{1, std::nullopt}});
+    const auto ended = net.renumber();
+    expect("the first entry again", net.step({{2, std::nullopt}}).size() == 1 && net.status().spent == 2);
+    const auto text = net.transcript();
+    const std::string base = " spent=1 nodes=2 edges=1\nnode 1 2 0\nnode 2 - 0\nedge 1 2\n",
+                      head = "matching2 hh 2\nbase ";
+    expect("the first transcript",
+           text.substr(0, ended) == "matching hh 2\n1 link 1 2 = ok\n2 step 1 = 1:seduce>2\n" + head + "2" + base);
+    expect("the next transcript", text.substr(ended).rfind(head + "0" + base + "1 step 2 = 2:marry>1\n", 0) == 0);
+    expect("both are accepted", rudekpi::audit(text.substr(0, ended)).entries == 2 &&
+                                    rudekpi::audit(text.substr(ended)).entries == 2 &&
+                                    !rudekpi::audit(text).accepted());
+}
+
 static void versions() {
     const std::uint32_t number = rudekpi::version();
     const std::string text = std::to_string(number / 1000000) + "." + std::to_string(number / 1000 % 1000) + "." +
@@ -144,6 +193,7 @@ static void versions() {
 }
 
 int main() {
+    rule_of_one_node();
     versions();
     edits_and_steps();
     reach_and_faults();
@@ -151,6 +201,7 @@ int main() {
     exceptions();
     audits();
     resumptions();
+    renumbering();
     std::cout << "classes: " << wrong << " wrong\n";
     return wrong != 0;
 }

@@ -17,6 +17,7 @@ PACKAGES = {
     "clang++": "clang",
     "clang-format": "clang-format",
     "cmake": "cmake",
+    "coqc": "coq",
     "distributed": "python3-distributed",
     "dot": "graphviz",
     "gir1.2-webkit2-4.1": "gir1.2-webkit2-4.1",
@@ -33,6 +34,7 @@ PACKAGES = {
     "networkx": "python3-networkx",
     "node": "nodejs",
     "objcopy": "binutils",
+    "ocamlopt": "ocaml-nox",
     "pandas": "python3-pandas",
     "pkg-config": "pkg-config",
     "python3-gi": "python3-gi",
@@ -53,6 +55,7 @@ OF_THE_GATE = (
     *("chromium", "dot", "firefox-esr", "gcc", "man", "mandoc", "node", "wasm-opt", "WebKitWebDriver", "Xvfb"),
     *("black", "clang", "clang-format", "flake8", "mypy", "shellcheck", "tsc"),
     *("aarch64-linux-gnu-gcc", "cmake", "g++", "make", "pkg-config", "qemu-aarch64", "riscv64-linux-gnu-gcc"),
+    *("coqc", "ocamlopt"),
 )
 # The gate's needs that are no programs, by package.
 FILES = {

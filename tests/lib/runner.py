@@ -110,7 +110,7 @@ def run_tests(tests: Iterable[unittest.TestCase], tally: Tally = TALLY) -> Tally
 def parser_of(doc: str) -> argparse.ArgumentParser:
     """Its help is a script's own docstring, with the usage in the second paragraph."""
     name = f"tests/{os.path.basename(sys.argv[0])}"
-    parser = argparse.ArgumentParser(prog=name, description=doc, usage=argparse.SUPPRESS)
+    parser = argparse.ArgumentParser(allow_abbrev=False, prog=name, description=doc, usage=argparse.SUPPRESS)
     parser.formatter_class = argparse.RawDescriptionHelpFormatter
     usage = doc.split("\n\n")[1].removeprefix("usage: ") if "\n\nusage: " in doc else name
 

@@ -118,6 +118,10 @@ class Report:
     def print(self, text: str) -> None:
         print(text, file=self.out, flush=True)
 
+    def begin(self, name: str, about: str, seconds: float) -> None:
+        """Prints what runs now, and how long it may take."""
+        self.print(f"{name}: {about}: at most {seconds:g} s ..")
+
     def add(self, name: str, result: Result) -> None:
         """Prints its line, its skipped checks, and if it failed its output."""
         self.total.passed += result.passed
