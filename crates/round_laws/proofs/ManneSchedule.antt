@@ -288,8 +288,6 @@ wed_update s good v has off paired = may_update s good v has (off ∙ sym (ap no
 pointers_on : (s : State) (v : ℕ) (value : Bool) (p : IsPlayed manne s v (pointer s v) value) (u : ℕ) → pointer (then s p.m) u ≡ pointer s u
 pointers_on s v value p u = ⊎_elim (λ same. ap (pointer (then s p.m)) same ∙ p.here ∙ ap (pointer s) (sym same)) (λ apart. p.others u apart) (cases_eq u v)
 
-
-
 update_lower : (n k : ℕ) (s : State) → IsFresh n k false s → (p : IsPlayed manne s (k + 1) (pointer s (k + 1)) (married s (k + 1))) × IsFresh n k true (then s p.m)
 update_lower n k s it = (
   p,
