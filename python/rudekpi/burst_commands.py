@@ -7,7 +7,7 @@ import csv
 import sys
 from typing import Callable
 
-from .bursts import COUNTS, HEAD, bursts, row_of
+from .bursts import bursts, head_of, row_of
 from .errors import Damaged
 from .log_commands import names_given, read, words_of_names
 
@@ -17,12 +17,14 @@ Command = Callable[[str, Callable[[argparse.Namespace], int], str], argparse.Arg
 
 def run_bursts(given: argparse.Namespace) -> int:
     try:
-        found = bursts(read(given.transcript), names=names_given(given), program=given.program)
+        found = bursts(
+            read(given.transcript), names=names_given(given), program=given.program, partners=given.partners
+        )
     except Damaged as damaged:
         print(damaged, file=sys.stderr)
         return FAILED
     has_nodes = not given.no_nodes
-    print(HEAD if has_nodes else COUNTS)
+    print(head_of(has_nodes, given.partners))
     csv.writer(sys.stdout, lineterminator="\n").writerows(row_of(burst, has_nodes) for burst in found)
     return DONE
 
@@ -32,4 +34,7 @@ def add_commands(command: Command) -> None:
     of_bursts.add_argument("transcript", nargs="?", default="-", help="a file (standard input)")
     words_of_names(of_bursts)
     of_bursts.add_argument("--no-nodes", action="store_true", help="leaves out the two columns that list nodes")
+    of_bursts.add_argument(
+        "--partners", action="store_true", help="adds columns: pairs broken and remade, nodes without a partner"
+    )
     of_bursts.add_argument("--program", help="the program that judges")

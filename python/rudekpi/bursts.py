@@ -9,7 +9,7 @@ from __future__ import annotations
 import itertools
 import json
 from collections import Counter
-from dataclasses import dataclass
+from dataclasses import astuple, dataclass
 from typing import Iterable, Iterator, Mapping, Optional
 
 from .audits import judged_epochs
@@ -17,6 +17,7 @@ from .containment import reach
 from .errors import Garbled
 from .given import Given, bytes_of
 from .names import Names, names_for
+from .partners import NAMES, PartnerCounts, PartnerWatch, summed
 from .program import Program
 from .reading import numbers_of_base
 from .replays import parts_of
@@ -42,6 +43,8 @@ class Burst:
     `reached` lists the nodes that were in the reach of a disturbance when that came, and `moved` the nodes
     that moved, both in order of number. If the burst began in a silent network, no node outside `reached`
     moved.
+
+    `partners` has what happened to the pairs, None unless it was asked for.
     """
 
     start: Optional[int]
@@ -56,6 +59,7 @@ class Burst:
     pairs_after: int
     reached: tuple[Name, ...]
     moved: tuple[Name, ...]
+    partners: Optional[PartnerCounts] = None
 
 
 def bound_of_costs(rules: str, cost: int, gained: int, left: int) -> int:
@@ -69,8 +73,12 @@ def bound_of_costs(rules: str, cost: int, gained: int, left: int) -> int:
 class BurstReader:
     """Reads the bursts of an accepted transcript entry by entry, given its epochs."""
 
-    def __init__(self, rules: str, names: Names, state: State, epochs: Iterable[Epoch]) -> None:
-        self.rules, self.names, self.watch = rules, names, Watch(state)
+    def __init__(
+        self, rules: str, names: Names, state: State, epochs: Iterable[Epoch], has_partners: bool = False
+    ) -> None:
+        self.rules, self.names = rules, names
+        self.partners = PartnerWatch(state) if has_partners else None
+        self.watch = self.partners or Watch(state)
         self.costs = {epoch.start: epoch.cost for epoch in epochs}
         self.is_open, self.last = False, state.entry
         if not self.watch.is_silent:
@@ -83,6 +91,8 @@ class BurstReader:
         self.reached: set[int] = set()
         watch.moved = set()
         self.counts_before = self.counts()
+        if self.partners:
+            self.partners.begin()
 
     def counts(self) -> tuple[int, int, int]:
         return sum(self.watch.moves.values()), self.watch.steps, self.watch.rounds
@@ -135,13 +145,21 @@ class BurstReader:
             watch.pairs,
             tuple(map(self.names.name_of, sorted(self.reached))),
             tuple(map(self.names.name_of, sorted(watch.moved))),
+            self.partners.counted() if self.partners else None,
         )
 
 
-def bursts(transcript: Given, *, names: Optional[Iterable[Name]] = None, program: Program = None) -> list[Burst]:
+def bursts(
+    transcript: Given,
+    *,
+    names: Optional[Iterable[Name]] = None,
+    program: Program = None,
+    partners: bool = False,
+) -> list[Burst]:
     """The bursts of a transcript, from silence to silence, in order.
 
-    `names` are the caller's, in the order of the numbers. Raises `Damaged` if `audit` refuses the transcript,
+    `names` are the caller's, in the order of the numbers. With `partners` each burst also has what happened
+    to the pairs. Raises `Damaged` if `audit` refuses the transcript,
     `ValueError` if the number of names differs, `Garbled` if the program lists other moves than the entries
     have, and `Ended`.
     """
@@ -152,7 +170,7 @@ def bursts(transcript: Given, *, names: Optional[Iterable[Name]] = None, program
     state.follow(head)
     # the first epoch also has the moves before the base that begins a transcript
     spent = numbers_of_base(head)[0] if len(head) > 1 else 0
-    reader = BurstReader(state.rules, names_for(text, names), state, epochs)
+    reader = BurstReader(state.rules, names_for(text, names), state, epochs, partners)
     # a base in the middle changes nothing
     entries = (part[0] for part in parts if len(part) == 1)
     found = [*itertools.chain.from_iterable(map(reader.read, entries)), *reader.rest()]
@@ -161,12 +179,28 @@ def bursts(transcript: Given, *, names: Optional[Iterable[Name]] = None, program
     return found
 
 
+def read_after(transcript: str, entry: int, epochs: Iterable[Epoch]) -> tuple[Watch, PartnerCounts]:
+    """What followed an entry of an accepted transcript without bases, and the counts of all its bursts."""
+    lines, state = iter(transcript.splitlines()), State()
+    state.follow([next(lines)])
+    while state.entry < entry:
+        state.follow([next(lines)])
+    reader = BurstReader(state.rules, Names(state.count), state, epochs, has_partners=True)
+    found = [*itertools.chain.from_iterable(map(reader.read, lines)), *reader.rest()]
+    return reader.watch, summed(burst.partners for burst in found if burst.partners)
+
+
 COUNTS = "start,end,disturbances,cost,bound,moves,steps,rounds,pairs_before,pairs_after"
 HEAD = f"{COUNTS},reached,moved"
 
 
+def head_of(has_nodes: bool = True, has_partners: bool = False) -> str:
+    """The names of the columns of `row_of`."""
+    return ",".join([HEAD if has_nodes else COUNTS, *(NAMES if has_partners else ())])
+
+
 def row_of(burst: Burst, has_nodes: bool = True) -> list[str]:
-    """A burst as a row of CSV below `HEAD`, or `COUNTS`: `-` for None, lists separated by blanks.
+    """A burst as a row of CSV below `head_of`: `-` for None, lists separated by blanks.
 
     A name with a blank or a quote is written in quotes, as in JSON.
     """
@@ -174,7 +208,8 @@ def row_of(burst: Burst, has_nodes: bool = True) -> list[str]:
     figures = (burst.cost, burst.bound, burst.moves, burst.steps, burst.rounds, burst.pairs_before, burst.pairs_after)
     lists = (" ".join(map(word_of, nodes)) for nodes in ((burst.reached, burst.moved) if has_nodes else ()))
     told = ["-" if it is None else str(it) for it in (burst.start, burst.end)]
-    return [*told, words, *("-" if it is None else str(it) for it in figures), *lists]
+    counts = map(str, astuple(burst.partners)) if burst.partners else ()
+    return [*told, words, *("-" if it is None else str(it) for it in figures), *lists, *counts]
 
 
 def word_of(name: Name) -> str:

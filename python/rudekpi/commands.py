@@ -52,7 +52,7 @@ IN_PLAN = (
     *("--joins", "--leaves", "--cut", "--add", "--rewire", "--move", "--every", "--any-value"),
 )
 # the flags of a sweep that plays, in addition to those of a plan
-IN_SWEEP = ("--csv", "--resume", "--force", "--maximum", "--processes", "--dask", "--program")
+IN_SWEEP = ("--csv", "--resume", "--force", "--maximum", "--partners", "--processes", "--dask", "--program")
 # graphs, rules, daemons, seeds and disturbances
 Words = tuple[Sequence[Graph], Sequence[str], Sequence[str], Sequence[int], Sequence[Disturbance]]
 MADE = (
@@ -158,6 +158,9 @@ def words_of_sweep(parser: argparse.ArgumentParser, rules: str) -> None:
     parser.add_argument("--force", action="store_true", help="begins the file of --csv anew if it is there")
     parser.add_argument(
         "--maximum", action="store_true", help="adds a column with the size of a maximum matching; needs networkx"
+    )
+    parser.add_argument(
+        "--partners", action="store_true", help="adds columns: pairs broken and remade, nodes without a partner"
     )
     parser.add_argument("--plot", help="a file for a plot, .svg, .png or .pdf; needs matplotlib")
     parser.add_argument("--processes", type=least(1), help="how many processes (one a processor)")
@@ -284,7 +287,7 @@ def rows_of(given: argparse.Namespace, rows: list[Row], is_written: bool) -> int
     refuse_clashes(given, words[0])
     target = RowTarget(given.csv, given.resume, given.force)
     todo = experiments_given(given, words)
-    target.check({it.graph.title: it.graph for it in todo}, given.maximum)
+    target.check({it.graph.title: it.graph for it in todo}, given.maximum, given.partners)
     rows += target.rows
     with executor_of(given) as executor:
         found = sweeps.sweep(
@@ -294,6 +297,7 @@ def rows_of(given: argparse.Namespace, rows: list[Row], is_written: bool) -> int
             processes=given.processes,
             there=rows,
             maximum=given.maximum,
+            partners=given.partners,
         )
         left = len(todo) - len({row.key for row in rows} & {it.key for it in todo})
         try:

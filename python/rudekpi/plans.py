@@ -13,7 +13,7 @@ from .disturbances import Disturbance
 from .errors import RudekpiError
 from .graphs import graph_of
 from .program import Program
-from .rows import COLUMNS, EARLIER, FoundRow, Row, RowFile
+from .rows import COLUMNS, EARLIER, OPTIONAL, FoundRow, Row, RowFile
 from .simple_graph import Graph
 from .sweeps import Experiment, Played
 
@@ -160,7 +160,8 @@ def experiment_of(
     hit = disturbance_in(row.disturbance)
     if not row.digest:
         hit = replace(hit, any_value=True)
-    return Experiment(graph, row.rules, row.daemon, row.seed, hit, program, row.maximum is not None)
+    asked = row.maximum is not None, row.broken is not None
+    return Experiment(graph, row.rules, row.daemon, row.seed, hit, program, *asked)
 
 
 def play_again(row: Row, undirected: bool = False, program: Program = None, graph: Optional[Graph] = None) -> Played:
@@ -172,7 +173,7 @@ def play_again(row: Row, undirected: bool = False, program: Program = None, grap
     played = experiment.played()
     made = experiment.measured(played, 0.0)
     known = COLUMNS if row.digest else EARLIER
-    for name in (*known, "maximum"):
+    for name in (*known, *OPTIONAL):
         was, now = getattr(row, name), getattr(made, name)
         is_said_otherwise = name == "disturbance" and not row.digest
         if name != "seconds" and was != now and not is_said_otherwise:

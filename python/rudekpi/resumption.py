@@ -10,7 +10,7 @@ from typing import Iterable, Iterator, Mapping, Optional, Sequence, TextIO
 
 from . import streams
 from .files import is_descriptor, write_whole
-from .rows import EARLIER, FoundRow, Row, RowFile, columns_of, lines_of_file, text_of
+from .rows import EARLIER, PARTNERS, FoundRow, Row, RowFile, lines_of_file, text_of
 from .simple_graph import Graph
 
 
@@ -65,11 +65,13 @@ class RowTarget:
     def rows(self) -> list[Row]:
         return [it.row for it in self.found]
 
-    def check(self, graphs: Mapping[str, Graph], has_maximum: bool) -> None:
+    def check(self, graphs: Mapping[str, Graph], has_maximum: bool, has_partners: bool = False) -> None:
         """Raises `ValueError` if the rows that are there have other columns, or are of other graphs."""
-        if self.columns and self.columns != columns_of(has_maximum):
-            has, do = ("no", "leave it out") if has_maximum else ("a", "give it too")
-            raise ValueError(f"{self.path} has {has} column maximum, which --maximum adds: {do}")
+        for column, is_asked in (("maximum", has_maximum), ("partners", has_partners)) if self.columns else ():
+            name = PARTNERS[0] if column == "partners" else column
+            if (name in self.columns) != is_asked:
+                has, do = ("no", "leave it out") if is_asked else ("a", "give it too")
+                raise ValueError(f"{self.path} has {has} column {name}, which --{column} adds: {do}")
         for row, line, _ in self.found:
             digest = graphs[row.graph].digest if row.graph in graphs else row.digest
             if digest != row.digest:

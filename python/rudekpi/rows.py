@@ -6,10 +6,11 @@ import csv
 import io
 import math
 import re
-from dataclasses import astuple, dataclass, fields
+from dataclasses import dataclass, fields
 from typing import Any, BinaryIO, Callable, Iterable, Iterator, NamedTuple, Optional, Sequence, TextIO
 
 from .kept_graphs import keep_beside
+from .partners import NAMES as PARTNERS
 
 NUMBER = re.compile("[0-9]{1,20}")
 SECONDS = re.compile(r"[0-9.]{1,30}(?:[eE][+-]?[0-9]{1,3})?")
@@ -26,7 +27,8 @@ class Row:
 
     `changes` counts the faults that changed a register, None if they were drawn with any value. `digest` is
     that of the graph, empty in a row of an earlier version. `maximum` is the size of a maximum matching at
-    the end, if it was asked for.
+    the end, if it was asked for. The last columns are those of `PartnerCounts`, summed over the bursts, if
+    they were asked for.
     """
 
     graph: str
@@ -50,20 +52,36 @@ class Row:
     changes: Optional[int] = None
     digest: str = ""
     maximum: Optional[int] = None
+    broken: Optional[int] = None
+    remade: Optional[int] = None
+    remade_same: Optional[int] = None
+    steps_alone: Optional[int] = None
+    most_steps_alone: Optional[int] = None
+    rounds_alone: Optional[int] = None
+    most_rounds_alone: Optional[int] = None
+    lost_untouched: Optional[int] = None
 
     @property
     def key(self) -> tuple[object, ...]:
         return self.graph, self.rules, self.daemon, self.seed, self.disturbance
 
 
-WITH_MAXIMUM = tuple(it.name for it in fields(Row))
-COLUMNS = WITH_MAXIMUM[:-1]
+OPTIONAL = ("maximum", *PARTNERS)
+COLUMNS = tuple(it.name for it in fields(Row) if it.name not in OPTIONAL)
 # those of rows without digests
 EARLIER = COLUMNS[:-2]
 
 
-def columns_of(has_maximum: bool) -> tuple[str, ...]:
-    return WITH_MAXIMUM if has_maximum else COLUMNS
+def columns_of(has_maximum: bool, has_partners: bool = False) -> tuple[str, ...]:
+    return (*COLUMNS, *OPTIONAL[:has_maximum], *(PARTNERS if has_partners else ()))
+
+
+WITH_MAXIMUM = columns_of(True)
+KNOWN = (EARLIER, COLUMNS, WITH_MAXIMUM, columns_of(False, True), columns_of(True, True))
+
+
+def values_of(row: Row, columns: Sequence[str]) -> list[object]:
+    return [getattr(row, name) for name in columns]
 
 
 def number_in(text: str) -> int:
@@ -115,7 +133,7 @@ class RowFile:
         head = self.record()
         if head is None or self.is_torn_head():
             return
-        if tuple(head) not in (EARLIER, COLUMNS, WITH_MAXIMUM):
+        if tuple(head) not in KNOWN:
             raise ValueError(f"{title} has not the columns {','.join(COLUMNS)}")
         self.columns, self.head_end = tuple(head), self.end
 
@@ -126,7 +144,8 @@ class RowFile:
             yield line
 
     def is_torn_head(self) -> bool:
-        return not self.last.endswith("\n") and ",".join(WITH_MAXIMUM).startswith(self.last.rstrip("\r"))
+        begun = self.last.rstrip("\r")
+        return not self.last.endswith("\n") and any(",".join(columns).startswith(begun) for columns in KNOWN)
 
     def record(self) -> Optional[list[str]]:
         """The next record, None at the end. Raises `ValueError`, with file and line."""
@@ -182,7 +201,7 @@ def write_csv(rows: Iterable[Row], file: TextIO, has_head: bool = False) -> Iter
     if not has_head:
         writer.writerow(columns)
     for row in rows:
-        writer.writerow(astuple(row)[: len(columns)])
+        writer.writerow(values_of(row, columns))
         file.flush()
         yield row
 
@@ -192,7 +211,7 @@ def text_of(rows: Iterable[Row], columns: Sequence[str]) -> str:
     file = io.StringIO(newline="")
     writer = csv.writer(file)
     writer.writerow(columns)
-    writer.writerows(astuple(row)[: len(columns)] for row in rows)
+    writer.writerows(values_of(row, columns) for row in rows)
     return file.getvalue()
 
 

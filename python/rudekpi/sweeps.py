@@ -19,7 +19,7 @@ from typing import Any, Generator, Iterable, Optional, Sequence, Union
 
 from . import daemons, maximum_matchings
 from .audits import judged_epochs
-from .bursts import bound_of_costs
+from .bursts import bound_of_costs, read_after
 from .choices import Daemon
 from .disturbances import Disturbance as Disturbance
 from .disturbances import Events
@@ -69,6 +69,8 @@ class Played:
     nodes: tuple[Name, ...] = ()
     # how many faults changed a register, None if they were drawn with any value
     changes: Optional[int] = None
+    # the entry in silence after which the disturbances come; that of `before` if there are none
+    quiet: int = 0
 
 
 @dataclass(frozen=True)
@@ -86,6 +88,8 @@ class Experiment:
     program: Program = None
     # whether the row has the size of a maximum matching
     maximum: bool = False
+    # whether the row has what happened to the pairs
+    partners: bool = False
 
     def __post_init__(self) -> None:
         if not isinstance(self.graph, Graph):
@@ -127,8 +131,10 @@ class Experiment:
             self.begin(net, joining)
             daemon = daemons.named(self.daemon, self.seed) if isinstance(self.daemon, str) else self.daemon
             events = Events(wanted, self.graph, joining, drawn)
+            quiet = None
             if not wanted.is_nothing:
                 net.settle(daemons.Seeded(self.seed))
+                quiet = net._session.entries
                 if not wanted.every:
                     disturb_at_once(net, events, self.seed)
             before, player = net.status(), Player(net, daemon)
@@ -137,7 +143,8 @@ class Experiment:
             player.settle()
             after = net.status()
         changes = None if wanted.any_value and wanted.faults else events.changes
-        return Played(net.transcript(), before, after, player.steps, player.moves, self.graph.nodes, changes)
+        quiet = before.entry if quiet is None else quiet
+        return Played(net.transcript(), before, after, player.steps, player.moves, self.graph.nodes, changes, quiet)
 
     def measured(self, played: Played, began: float) -> Row:
         """The row of a run, whose transcript is judged here.
@@ -146,7 +153,10 @@ class Experiment:
         """
         before, after = played.before, played.after
         epochs = judged_epochs(played.transcript, program=self.program)
-        watch = watch_after(played.transcript, before.entry)
+        if self.partners:
+            watch, counts = read_after(played.transcript, played.quiet, epochs)
+        else:
+            watch, counts = watch_after(played.transcript, before.entry), None
         later = [epoch for epoch in epochs if epoch.start is not None and epoch.start > before.entry]
         moves, last = sum(watch.moves.values()), epochs[-1]
         told = sum(epoch.moves for epoch in later) if later else last.moves - before.spent
@@ -181,6 +191,7 @@ class Experiment:
             played.changes,
             self.graph.digest,
             maximum_matchings.size_of(watch.state.edges()) if self.maximum else None,
+            **(asdict(counts) if counts else {}),
         )
 
     def begin(self, net: Network, joining: set[Name]) -> None:
@@ -205,6 +216,7 @@ def experiments_of(
     disturbances: Iterable[Union[int, Disturbance]],
     program: Program = None,
     maximum: bool = False,
+    partners: bool = False,
 ) -> list[Experiment]:
     """All experiments of a sweep.
 
@@ -224,7 +236,7 @@ def experiments_of(
         words for words in every if not (words[1] == "hh" and (is_of_manne(words[2]) or words[4].registers == "flag"))
     )
     return [
-        Experiment(graph, rule_set, daemon, seed, disturbance, program, maximum)
+        Experiment(graph, rule_set, daemon, seed, disturbance, program, maximum, partners)
         for graph, rule_set, daemon, seed, disturbance in lawful
     ]
 
@@ -261,6 +273,7 @@ def sweep(
     processes: Optional[int] = None,
     there: Iterable[Row] = (),
     maximum: bool = False,
+    partners: bool = False,
 ) -> Rows[Row]:
     """A row for each graph, rules, daemon, seed and disturbance, in the order of completion.
 
@@ -268,7 +281,8 @@ def sweep(
     any of `concurrent.futures`, or that of a cluster whose workers have this package and the program
     (`distributed.Client().get_executor()`, `mpi4py.futures`). By default `processes` processes of this
     machine play, or one for each processor. Experiments whose rows are in `there` are not played. With
-    `maximum` each row has the size of a maximum matching, by networkx. Raises `ValueError` for wrong
+    `maximum` each row has the size of a maximum matching, by networkx, and with `partners` what happened to the
+    pairs: see `PartnerCounts`. Raises `ValueError` for wrong
     arguments, and `ImportError` if networkx is missing.
 
     Experiments are handed out in tasks of about a second. If a task's worker dies, the task is tried once
@@ -282,16 +296,16 @@ def sweep(
     known = {row.key for row in there}
     if maximum:
         maximum_matchings.check()
-    every = experiments_of(graphs, rules, daemons, seeds, faults, program, maximum)
+    every = experiments_of(graphs, rules, daemons, seeds, faults, program, maximum, partners)
     todo, played = [it for it in every if it.key not in known], {it.graph.title: it.graph for it in every}
     for graph in played.values():
         _ = graph.digest  # found once, before it goes to workers
     if executor is not None:
-        return Rows(rows_of(todo, executor), played.values(), columns_of(maximum))
+        return Rows(rows_of(todo, executor), played.values(), columns_of(maximum, partners))
     # built and named once, before any worker looks for it
     found_program(program)
     given = max(1, min(processes or os.cpu_count() or 1, len(todo)))
-    return Rows(rows_of(todo, given), played.values(), columns_of(maximum))
+    return Rows(rows_of(todo, given), played.values(), columns_of(maximum, partners))
 
 
 class Tasks:
@@ -345,5 +359,5 @@ def frame_of(rows: Iterable[Row]) -> Any:
     except ImportError:
         raise ImportError("a frame wants pandas, which is not there") from None
     found = [asdict(row) for row in rows]
-    has_maximum = any(row["maximum"] is not None for row in found)
-    return pandas.DataFrame(found, columns=list(columns_of(has_maximum)))
+    has_maximum, has_partners = (any(row[name] is not None for row in found) for name in ("maximum", "broken"))
+    return pandas.DataFrame(found, columns=list(columns_of(has_maximum, has_partners)))

@@ -6,11 +6,17 @@ import random
 import statistics
 from typing import Sequence
 
+from .rows import PARTNERS
 from .sweeps import Row, natural
 
 HEAD = (
     *("graph", "disturbance", "daemon", "rules", "runs", "min", "mean", "median", "95% of median", "95th", "max"),
     *("bound", "steps", "rounds"),
+)
+# of rows with what happened to the pairs: medians, and the most of one node in any run
+PARTNER_HEAD = (
+    *("broken", "remade", "remade same", "steps alone", "most steps alone", "rounds alone", "most rounds alone"),
+    "lost untouched",
 )
 # how many columns have words
 WORDS = 4
@@ -47,6 +53,16 @@ def groups_of(rows: Sequence[Row]) -> list[tuple[tuple[str, ...], list[Row]]]:
     return sorted(groups.items(), key=lambda item: [natural(word) for word in item[0]])
 
 
+def partner_figures(group: Sequence[Row]) -> list[str]:
+    """Medians of the runs' sums, and the most of one node in any run; `-` if a row lacks them."""
+    figures = []
+    for name in PARTNERS:
+        found = [getattr(row, name) for row in group]
+        is_most = name.startswith("most_") or name == "lost_untouched"
+        figures.append("-" if None in found else f"{max(found) if is_most else statistics.median(found):g}")
+    return figures
+
+
 def figures_of(group: Sequence[Row]) -> list[str]:
     moves = sorted(row.moves for row in group)
     low, high = interval(moves)
@@ -68,6 +84,9 @@ def figures_of(group: Sequence[Row]) -> list[str]:
 def table_of(rows: Sequence[Row], is_markdown: bool = False) -> list[str]:
     """The lines of the table, in columns or in Markdown."""
     lines = [HEAD, *((*key, *figures_of(group)) for key, group in groups_of(rows))]
+    if any(row.broken is not None for row in rows):
+        more = [PARTNER_HEAD, *(partner_figures(group) for _, group in groups_of(rows))]
+        lines = [(*line, *counts) for line, counts in zip(lines, more)]
     if is_markdown:
         return markdown_of(lines)
     widths = [max(map(len, column)) for column in zip(*lines)]
@@ -80,6 +99,6 @@ def table_of(rows: Sequence[Row], is_markdown: bool = False) -> list[str]:
 
 
 def markdown_of(lines: Sequence[Sequence[str]]) -> list[str]:
-    rule = ["---" if at < WORDS else "---:" for at in range(len(HEAD))]
+    rule = ["---" if at < WORDS else "---:" for at in range(len(lines[0]))]
     escaped = [[text.replace("\\", "\\\\").replace("|", "\\|") for text in line] for line in lines]
     return [f"| {' | '.join(line)} |" for line in (escaped[0], rule, *escaped[1:])]
