@@ -25,15 +25,15 @@ _rudekpi_flags() {
         *,picture) _rudekpi_words --entry --help ;;
         *,epochs) _rudekpi_words --help ;;
         *,storm) _rudekpi_words --rules --nodes --present --workers --from --roam --turns --help ;;
-        *,sweep) _rudekpi_words --graph --undirected --rules --daemon --seeds --first-seed --faults --registers --any-value --joins --leaves --cut --add --rewire --move --every --csv --resume --force --maximum --plot --processes --dask --program --help ;;
-        *,compare) _rudekpi_words --graph --undirected --rules --daemon --seeds --first-seed --faults --registers --any-value --joins --leaves --cut --add --rewire --move --every --csv --resume --force --maximum --plot --processes --dask --program --markdown --help ;;
+        *,sweep) _rudekpi_words --graph --undirected --rules --daemon --seeds --first-seed --faults --registers --any-value --joins --leaves --cut --add --rewire --move --every --trace --racks --csv --resume --force --maximum --partners --plot --processes --dask --program --help ;;
+        *,compare) _rudekpi_words --graph --undirected --rules --daemon --seeds --first-seed --faults --registers --any-value --joins --leaves --cut --add --rewire --move --every --trace --racks --csv --resume --force --maximum --partners --plot --processes --dask --program --markdown --help ;;
         *,worst) _rudekpi_words --graph --undirected --rules --seconds --seed --transcript --output --program --help ;;
         *,check) _rudekpi_words --help ;;
         *,shell) _rudekpi_words --rules --nodes --present --program --help ;;
         *,json) _rudekpi_words --names --program --help ;;
         *,conform) _rudekpi_words --rules --resync --output --program --help ;;
         *,explain) _rudekpi_words --names --program --help ;;
-        *,bursts) _rudekpi_words --names --no-nodes --program --help ;;
+        *,bursts) _rudekpi_words --names --no-nodes --partners --program --help ;;
         *,again) _rudekpi_words --output --page --undirected --program --help ;;
         *,page) _rudekpi_words --output --names --program --help ;;
     esac
@@ -73,7 +73,7 @@ _rudekpi() {
     case $before in
         *'<' | *'>') _rudekpi_files ;;
         --rules) _rudekpi_words hh manne ;;
-        --nodes | --present | --workers | --entry | --roam | --turns | --seeds | --first-seed | --faults | --joins | --leaves | --cut | --add | --rewire | --move | --every | --processes | --dask | --seconds | --seed) : a number, which nobody can complete ;;
+        --nodes | --present | --workers | --entry | --roam | --turns | --seeds | --first-seed | --faults | --joins | --leaves | --cut | --add | --rewire | --move | --every | --trace | --racks | --processes | --dask | --seconds | --seed) : a number, which nobody can complete ;;
         --from | --graph | --csv | --plot | --program | --output | --names | --page) _rudekpi_files ;;
         --daemon) _rudekpi_words synchronous least greatest age seeded greedy helpful local ;;
         --registers) _rudekpi_words any pointer flag ;;

@@ -45,7 +45,10 @@ from .local_rules import LocalMove, local_rule, may_move
 from .name_files import read_names, write_names
 from .network import Network
 from .parts import audit_parts
+from .partners import PartnerCounts
 from .pieces import Audit
+from .plays import play_trace
+from .racks import Racks, read_racks
 from .replies import (
     Accepted,
     Base,
@@ -67,6 +70,7 @@ from .replays import replay
 from .schedules import longest
 from .storms import storm
 from .sweeps import sweep
+from .traces import Trace, TraceEvent, read_trace
 
 __version__ = "1.0.0"
 
@@ -95,8 +99,10 @@ __all__ = [
     "Network",
     "NoReply",
     "NoSuchCommand",
+    "PartnerCounts",
     "PastBound",
     "Pending",
+    "Racks",
     "Refused",
     "Registers",
     "RudekpiError",
@@ -104,6 +110,8 @@ __all__ = [
     "Shown",
     "Status",
     "Summary",
+    "Trace",
+    "TraceEvent",
     "Turns",
     "Wish",
     "WrongChoice",
@@ -118,7 +126,10 @@ __all__ = [
     "local_rule",
     "longest",
     "may_move",
+    "play_trace",
     "read_names",
+    "read_racks",
+    "read_trace",
     "replay",
     "storm",
     "sweep",

@@ -3,7 +3,7 @@
 from __future__ import annotations
 
 import argparse
-from typing import Callable
+from typing import Callable, Optional
 
 from . import drawings, outputs
 from .graphs import graph_of, is_path
@@ -11,7 +11,7 @@ from .kept_graphs import folder_of, kept_graph, path_of
 from .name_files import write_names
 from .names import names_for
 from .numbers import number_within
-from .plans import play_again, row_in
+from .plans import file_in, play_again, row_in
 from .rows import lines_of_file
 from .simple_graph import Graph
 from .sweeps import MOST_EXPERIMENTS
@@ -27,6 +27,7 @@ def run_again(given: argparse.Namespace) -> int:
         )
     title = found.row.graph
     reads = [given.rows, title if is_path(title) else None, path_of(given.rows, title), given.program]
+    reads.append(file_in(found.row.disturbance))
     outputs.refuse_clashes([given.output, outputs.names_file(given.output), given.page], reads)
     graph = graph_in(given, title)
     try:
@@ -43,10 +44,14 @@ def run_again(given: argparse.Namespace) -> int:
     return DONE
 
 
-def graph_in(given: argparse.Namespace, title: str) -> Graph:
-    """The graph of a row: kept next to the rows, made again by its word, or read again from its file."""
+def graph_in(given: argparse.Namespace, title: str) -> Optional[Graph]:
+    """The graph of a row: kept next to the rows, made again by its word, or read again from its file.
+
+    None if it is that of a trace, which is read later.
+    """
     try:
-        return kept_graph(given.rows, title) or graph_of(title, undirected=given.undirected)
+        kept = kept_graph(given.rows, title)
+        return kept if kept or title.startswith("trace ") else graph_of(title, undirected=given.undirected)
     except FileNotFoundError as error:
         raise FileNotFoundError(f"{error}; and {folder_of(given.rows)} keeps no graph of this title") from None
 

@@ -17,9 +17,7 @@ Command = Callable[[str, Callable[[argparse.Namespace], int], str], argparse.Arg
 
 def run_bursts(given: argparse.Namespace) -> int:
     try:
-        found = bursts(
-            read(given.transcript), names=names_given(given), program=given.program, partners=given.partners
-        )
+        found = bursts(read(given.transcript), names=names_given(given), program=given.program, partners=given.partners)
     except Damaged as damaged:
         print(damaged, file=sys.stderr)
         return FAILED

@@ -39,9 +39,11 @@ from .network import Network
 from .numbers import counted
 from .plans import read_plan
 from .progress import shown
+from .racks import read_racks
 from .resumption import RowTarget, is_row_file, rows_of_file
 from .disturbances import REGISTERS, Disturbance
 from .sweeps import Row
+from .traces import read_trace
 
 DONE, FAILED, BAD_WORDS, INTERRUPTED = 0, 1, 2, 130
 REACHED_SECONDS = 5
@@ -50,6 +52,7 @@ MOST_TOLD = 5
 IN_PLAN = (
     *("--graph", "--undirected", "--rules", "--daemon", "--seeds", "--first-seed", "--faults", "--registers"),
     *("--joins", "--leaves", "--cut", "--add", "--rewire", "--move", "--every", "--any-value"),
+    *("--trace", "--racks"),
 )
 # the flags of a sweep that plays, in addition to those of a plan
 IN_SWEEP = ("--csv", "--resume", "--force", "--maximum", "--partners", "--processes", "--dask", "--program")
@@ -110,8 +113,8 @@ def words_of_graph(parser: argparse.ArgumentParser) -> None:
 def read_graphs(given: argparse.Namespace) -> None:
     """Turns the words of --graph into graphs, once the whole command line is read."""
     if given.graph is None:
-        if given.plan is None:
-            given.parser.error("the following arguments are required: --graph, or a plan")
+        if given.plan is None and given.trace is None:
+            given.parser.error("the following arguments are required: --graph, --trace, or a plan")
         return
     words = given.graph if isinstance(given.graph, list) else [given.graph]
     made = [graph_given(given.parser, text, given.undirected) for text in words]
@@ -188,6 +191,12 @@ def words_of_links(parser: argparse.ArgumentParser) -> None:
         metavar="M",
         help="how many moves come between two disturbances; 0: all come at once (%(default)s)",
     )
+    parser.add_argument(
+        "--trace", metavar="FILE", help="a file of links and nodes that come and go at times, as CSV or JSON Lines"
+    )
+    parser.add_argument(
+        "--racks", metavar="FILE", help="a file of groups of nodes; each fault, join or leave hits a whole group"
+    )
 
 
 def length(text: str) -> float:
@@ -202,7 +211,11 @@ def length(text: str) -> float:
 
 def disturbances_of(given: argparse.Namespace) -> list[Disturbance]:
     counts = (given.joins, given.leaves, given.cut, given.add, given.rewire, given.move, given.every)
-    return [Disturbance(count, given.registers, *counts, any_value=given.any_value) for count in given.faults]
+    files = {
+        "trace": read_trace(given.trace) if given.trace is not None else None,
+        "racks": read_racks(given.racks) if given.racks is not None else None,
+    }
+    return [Disturbance(count, given.registers, *counts, given.any_value, **files) for count in given.faults]
 
 
 def reach(address: str) -> None:
@@ -233,8 +246,9 @@ def executor_of(given: argparse.Namespace) -> Iterator[Optional[Executor]]:
 
 def words_to_play(given: argparse.Namespace) -> Words:
     if given.plan is None:
-        seeds = range(given.first_seed, given.first_seed + given.seeds)
-        return given.graph, given.rules, given.daemon, seeds, disturbances_of(given)
+        seeds, hits = range(given.first_seed, given.first_seed + given.seeds), disturbances_of(given)
+        graphs = [hits[0].trace.start()] if given.graph is None and hits[0].trace else given.graph
+        return graphs, given.rules, given.daemon, seeds, hits
     refuse_beside(given, IN_PLAN, "stands in the plan, and not beside it")
     plan = read_plan(given.plan)
     return plan.graphs, plan.rules, plan.daemons, plan.seeds, plan.disturbances
@@ -271,9 +285,10 @@ def experiments_given(given: argparse.Namespace, words: Words) -> list[sweeps.Ex
     return todo
 
 
-def refuse_clashes(given: argparse.Namespace, graphs: Sequence[Graph]) -> None:
+def refuse_clashes(given: argparse.Namespace, graphs: Sequence[Graph] = (), hits: Sequence[Disturbance] = ()) -> None:
     """Raises `ValueError` if rows or a plot would be written over a file that is read."""
-    outputs.refuse_clashes([given.csv, given.plot], [given.plan, *map(path_of, graphs), given.program])
+    files = [it.title for hit in hits for it in (hit.trace, hit.racks) if it]
+    outputs.refuse_clashes([given.csv, given.plot], [given.plan, *map(path_of, graphs), *files, given.program])
 
 
 def path_of(graph: Graph) -> Optional[str]:
@@ -284,10 +299,10 @@ def path_of(graph: Graph) -> Optional[str]:
 def rows_of(given: argparse.Namespace, rows: list[Row], is_written: bool) -> int:
     """Plays a sweep, and writes each row as it comes unless it goes nowhere; returns the exit status."""
     words = words_to_play(given)
-    refuse_clashes(given, words[0])
+    refuse_clashes(given, words[0], words[4])
     target = RowTarget(given.csv, given.resume, given.force)
     todo = experiments_given(given, words)
-    target.check({it.graph.title: it.graph for it in todo}, given.maximum, given.partners)
+    target.check({it.graph.title: it.graph for it in todo}, given.maximum, given.partners, words[4])
     rows += target.rows
     with executor_of(given) as executor:
         found = sweeps.sweep(
@@ -317,7 +332,7 @@ def rows_given(given: argparse.Namespace) -> Optional[list[Row]]:
     if given.plan is None or not is_row_file(given.plan):
         return None
     refuse_beside(given, (*IN_PLAN, *IN_SWEEP), f"is for rows that are to be played, and {given.plan} has rows")
-    refuse_clashes(given, [])
+    refuse_clashes(given)
     if given.plot:
         from . import plots
 

@@ -4,17 +4,22 @@ from __future__ import annotations
 
 import math
 import random
+import re
 from dataclasses import dataclass
-from typing import Callable, Iterator, Sequence, Tuple
+from typing import Callable, Iterator, Optional, Sequence, Tuple
 
 from .batch import Batch
 from .numbers import counted
+from .racks import Group, Racks
 from .replies import Name
 from .simple_graph import Graph
 from .state import State
+from .traces import Trace
 from .walks import Topology, Walk
 
 REGISTERS = ("any", "pointer", "flag")
+# the part of a disturbance's text that names a file, whose path may have commas, with the digest of what it has
+FILED = re.compile(r"(?:^|, )(trace|by groups of) (.+) ([0-9a-f]{16})(?=$|, every )", re.DOTALL)
 # the edits and faults that come at once, each with the numbers of its nodes
 Event = Sequence[Tuple[str, Tuple[int, ...]]]
 
@@ -31,6 +36,10 @@ class Disturbance:
 
     If `every` is 0, all disturbances come at once. Otherwise the daemon moves between two of them: at least
     `every` moves, or until silence. Raises `ValueError` for numbers out of range.
+
+    With `racks` a fault, join or leave hits all nodes of a random group at once, and the numbers count groups.
+    A `trace` comes alone: its events one by one, with silence between two of them, or with at most `every`
+    moves.
     """
 
     faults: int = 0
@@ -43,6 +52,8 @@ class Disturbance:
     move: float = 0
     every: int = 0
     any_value: bool = False
+    trace: Optional[Trace] = None
+    racks: Optional[Racks] = None
 
     def __post_init__(self) -> None:
         counts = self.faults, self.joins, self.leaves, self.cut, self.add, self.rewire, self.every
@@ -52,6 +63,13 @@ class Disturbance:
             )
         if self.every and self.is_nothing:
             raise ValueError("every wants something that comes one by one, as faults or links that are cut")
+        is_alone = not (self.has_hits or self.racks or self.any_value or self.registers != "any")
+        if self.trace and not is_alone:
+            raise ValueError("a trace is all that disturbs a network: only every stands beside it")
+        if self.racks and (self.changes_links or self.any_value):
+            raise ValueError("groups join, leave, or have faults that change registers: nothing else goes with racks")
+        if self.racks and self.is_nothing:
+            raise ValueError("racks want something that hits all nodes of a group: faults, joins or leaves")
 
     def __str__(self) -> str:
         of = "" if self.registers == "any" else f" of {self.registers}s"
@@ -64,22 +82,43 @@ class Disturbance:
             f"{counted(self.cut, 'link')} cut" * bool(self.cut),
             f"{counted(self.add, 'link')} added" * bool(self.add),
             f"{counted(self.rewire, 'link')} rewired" * bool(self.rewire),
+            str(self.trace or ""),
+            str(self.racks or ""),
             f"every {counted(self.every, 'move')}" * bool(self.every),
         ]
         return ", ".join(filter(None, parts)) or "start"
 
     @property
     def is_nothing(self) -> bool:
-        return not (self.faults or self.joins or self.leaves or self.changes_links)
+        return not (self.has_hits or self.trace)
+
+    @property
+    def has_hits(self) -> bool:
+        return bool(self.faults or self.joins or self.leaves or self.changes_links)
+
+    @property
+    def is_one_by_one(self) -> bool:
+        """Whether moves come between the disturbances."""
+        return bool(self.every or self.trace)
 
     @property
     def changes_links(self) -> bool:
         return bool(self.cut or self.add or self.rewire or self.move)
 
+    def names_in(self, graph: Graph) -> tuple[Name, ...]:
+        """The names of all nodes that a network has which begins as this graph."""
+        return self.trace.on(graph).nodes if self.trace else graph.nodes
+
     def check(self, graph: Graph) -> None:
-        """Raises `ValueError` if a graph has too few nodes or edges, or its nodes cannot walk."""
-        if self.joins + self.leaves > len(graph.nodes):
-            raise ValueError(f"{graph.title}: {self} are more than its {len(graph.nodes)} nodes")
+        """Raises `ValueError` if a graph has too few nodes, groups or edges, or its nodes cannot walk.
+
+        Also if a trace does not fit the graph, or a name of the racks is no node.
+        """
+        if self.trace:
+            self.trace.on(graph)
+        units = len(self.racks.on(graph)) if self.racks else len(graph.nodes)
+        if self.joins + self.leaves > units:
+            raise ValueError(f"{graph.title}: {self} are more than its {units} {'groups' if self.racks else 'nodes'}")
         if self.cut + self.rewire > len(graph.edges):
             raise ValueError(f"{graph.title}: {self} are more than its {counted(len(graph.edges), 'edge')}")
         if self.move and graph.disk is None:
@@ -103,7 +142,10 @@ class ChangingFaults:
 
     def draw(self, state: State) -> tuple[str, tuple[int, int]]:
         """The next fault of a network in this state. Needs a node in `nodes`."""
-        node = self.drawn.choice(self.nodes)
+        return self.draw_at(self.drawn.choice(self.nodes), state)
+
+    def draw_at(self, node: int, state: State) -> tuple[str, tuple[int, int]]:
+        """A fault at a node, which is in `nodes`."""
         around = self.around.get(node)
         if not around or (self.has_flags and self.drawn.random() < 0.5):
             return "flag", (node, int(node not in state.flags))
@@ -112,13 +154,20 @@ class ChangingFaults:
         return "point", (node, around[-1] if target == state.pointers.get(node, 0) else target)
 
 
+def units_of(wanted: Disturbance, graph: Graph) -> Sequence[Group]:
+    """What a disturbance hits at once: each group of a graph's nodes, or each node."""
+    return wanted.racks.on(graph) if wanted.racks else [(number,) for number in range(1, len(graph.nodes) + 1)]
+
+
 class Events:
     """The edits and faults of a disturbance, drawn at random; the nodes `joining` join the graph."""
 
     def __init__(self, wanted: Disturbance, graph: Graph, joining: set[Name], drawn: random.Random) -> None:
         self.wanted, self.graph, self.drawn, self.names = wanted, graph, drawn, graph.nodes
         numbers = {name: number for number, name in enumerate(graph.nodes, 1)}
-        self.joining = [number for number, name in enumerate(graph.nodes, 1) if name in joining]
+        # what a disturbance hits at once: a node, or a group of nodes
+        self.units = units_of(wanted, graph)
+        self.joining = [unit for unit in self.units if graph.nodes[unit[0] - 1] in joining]
         self.edges = [(numbers[a], numbers[b]) for a, b in graph.edges]
         present = [number for number in numbers.values() if graph.nodes[number - 1] not in joining]
         self.topology = Topology(present, self.edges)
@@ -128,11 +177,12 @@ class Events:
     def edits(self) -> Iterator[Event]:
         """All edits in order, each when it is drawn; those of one item belong together."""
         topology, wanted, drawn = self.topology, self.wanted, self.drawn
-        leaving = sorted(drawn.sample([*topology.near], wanted.leaves))
+        leaving = sorted(drawn.sample([unit for unit in self.units if unit[0] in topology.near], wanted.leaves))
         yield from self.joins()
-        for node in leaving:
-            topology.leave(node)
-            yield [("leave", (node,))]
+        for unit in leaving:
+            for node in unit:
+                topology.leave(node)
+            yield [("leave", (node,)) for node in unit]
         if wanted.move and self.graph.disk:
             yield from Walk(self.graph.disk, topology, drawn).steps(wanted.move, bool(wanted.every))
         for _ in range(wanted.cut):
@@ -145,17 +195,17 @@ class Events:
 
     def joins(self) -> Iterator[Event]:
         """Nodes that join, each with its edges to present nodes. If all come at once, nodes precede edges."""
-        topology, later = self.topology, [*self.joining]
-        for node in self.joining:
-            topology.join(node)
-            links = []
+        topology, came = self.topology, {node for unit in self.joining for node in unit}
+        for unit in self.joining:
+            links, inside = [], {*unit}
+            for node in unit:
+                topology.join(node)
             for a, b in self.edges if self.wanted.every else ():
-                if node in (a, b) and a in topology.near and b in topology.near:
+                if (a in inside or b in inside) and a in topology.near and b in topology.near:
                     topology.link(a, b)
                     links.append(("link", (a, b)))
-            yield [("join", (node,)), *links]
-        if later and not self.wanted.every:
-            came = {*later}
+            yield [*(("join", (node,)) for node in unit), *links]
+        if came and not self.wanted.every:
             links = [("link", (a, b)) for a, b in self.edges if a in came or b in came]
             for _, (a, b) in links:
                 topology.link(a, b)
@@ -167,12 +217,17 @@ class Events:
         `look` returns the network's state before the next fault, which is then changed by this fault.
         """
         draws = ChangingFaults(self.wanted.registers, look().rules, self.topology, self.drawn)
-        for _ in range(self.wanted.faults if draws.nodes else 0):
+        can_change = {*draws.nodes}
+        units = [hit for unit in self.units if (hit := [node for node in unit if node in can_change])]
+        for _ in range(self.wanted.faults if units else 0):
             state = look()
-            word, (node, value) = draws.draw(state)
-            (state.point if word == "point" else state.flag)(node, value)
-            self.changes += 1
-            yield [(word, (node, value))]
+            event: list[tuple[str, tuple[int, ...]]] = []
+            for node in self.drawn.choice(units):
+                word, (_, value) = draws.draw_at(node, state)
+                (state.point if word == "point" else state.flag)(node, value)
+                event.append((word, (node, value)))
+            self.changes += len(event)
+            yield event
 
     def faults_with_any_value(self, seed: int) -> Iterator[Event]:
         """Faults of registers: of any, by the machine's own `scramble`, or of one kind."""

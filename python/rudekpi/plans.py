@@ -6,17 +6,21 @@ import importlib
 import json
 import re
 from dataclasses import dataclass, fields, replace
-from typing import Any, Callable, Iterable, Optional
+from typing import Any, Callable, Iterable, Optional, Sequence
 
 from . import daemons
-from .disturbances import Disturbance
+from .disturbances import FILED, Disturbance
 from .errors import RudekpiError
 from .graphs import graph_of
 from .program import Program
+from .racks import read_racks
 from .rows import COLUMNS, EARLIER, OPTIONAL, FoundRow, Row, RowFile
 from .simple_graph import Graph
 from .sweeps import Experiment, Played
+from .traces import read_trace
 
+# the parts of a disturbance that are files, and what reads them
+FILES: dict[str, Callable[[str], Any]] = {"trace": read_trace, "racks": read_racks}
 KEYS = ("graphs", "undirected", "rules", "daemons", "seeds", "first_seed", "disturbances")
 # the parts of a disturbance in a row, and how each is read
 PARTS: tuple[tuple[str, Callable[[re.Match[str]], dict[str, Any]]], ...] = (
@@ -74,19 +78,31 @@ def plan_of(given: Any) -> Plan:
     odd = next((key for key in given if key not in KEYS), None)
     if odd is not None:
         raise ValueError(f"a plan has no key {odd!r}: its keys are {', '.join(KEYS)}")
-    if "graphs" not in given:
-        raise ValueError("a plan names its graphs, as graphs = ['ring:12', 'edges.txt']")
     undirected = given.get("undirected", False)
     if undirected is not True and undirected is not False:
         raise ValueError(f"undirected is true or false, and not {undirected!r}")
     first = number_of(given, "first_seed", 0, 0)
+    hits = tuple(map(disturbance_of, list_of(given, "disturbances", [{}])))
+    if "graphs" in given:
+        made = tuple(graph_of(word, undirected=undirected) for word in words_of(given, "graphs", []))
+    else:
+        made = (start_of(hits),)
     return Plan(
-        tuple(graph_of(word, undirected=undirected) for word in words_of(given, "graphs", [])),
+        made,
         words_of(given, "rules", ["manne"]),
         words_of(given, "daemons", ["seeded"]),
         range(first, first + number_of(given, "seeds", 10, 1)),
-        tuple(map(disturbance_of, list_of(given, "disturbances", [{}]))),
+        hits,
     )
+
+
+def start_of(hits: Sequence[Disturbance]) -> Graph:
+    """The graph of a plan without one: that of its trace. Raises `ValueError` without a trace."""
+    traces = {it.trace.title if it.trace else "": it.trace for it in hits}
+    [trace, *others] = traces.values()
+    if not trace or others:
+        raise ValueError("a plan names its graphs, as graphs = ['ring:12', 'edges.txt'], unless it has one trace alone")
+    return trace.start()
 
 
 def list_of(given: dict[str, Any], key: str, usual: list[Any]) -> list[Any]:
@@ -121,17 +137,35 @@ def disturbance_of(given: Any) -> Disturbance:
         if key not in known:
             raise ValueError(f"a disturbance has no key {key!r}: its keys are {', '.join(known)}")
         kinds: dict[Any, tuple[type, ...]] = {"str": (str,), "float": (int, float), "bool": (bool,)}
-        if type(value) not in kinds.get(known[key], (int,)):
+        wanted = (str,) if key in FILES else kinds.get(known[key], (int,))
+        if type(value) not in wanted:
             raise ValueError(f"{key} of a disturbance is not {value!r}")
-    return Disturbance(**given)
+    return Disturbance(**{key: FILES[key](value) if key in FILES else value for key, value in given.items()})
+
+
+def file_in(text: str) -> Optional[str]:
+    """The path of the file that the disturbance of a row names; None if it names none."""
+    found = FILED.search(text)
+    return found[2] if found else None
 
 
 def disturbance_in(text: str) -> Disturbance:
-    """The disturbance that a row names. Raises `ValueError` if the text names none."""
+    """The disturbance that a row names; the file of a trace or of groups is read again.
+
+    Raises `ValueError` if the text names none, `OSError` if the file can't be read, and `RudekpiError` if it
+    has changed since.
+    """
     if text == "start":
         return Disturbance()
     words: dict[str, Any] = {}
-    for part in text.split(", "):
+    if found_file := FILED.search(text):
+        kind, path, digest = found_file.groups()
+        key = "trace" if kind == "trace" else "racks"
+        words[key] = FILES[key](path)
+        if words[key].digest != digest:
+            raise RudekpiError(f"another row comes of it: {path} has changed, its digest is {words[key].digest}")
+        text = (text[: found_file.start()] + text[found_file.end() :]).removeprefix(", ")
+    for part in text.split(", ") if text else ():
         found = next(((made, it) for of, made in PARTS if (it := re.fullmatch(of, part))), None)
         if not found:
             raise ValueError(f"{text[:80]!r} is no disturbance of a row")
@@ -151,13 +185,15 @@ def experiment_of(
         daemons.named(row.daemon)
     except ValueError:
         raise ValueError(f"the daemon {row.daemon[:80]!r} is none that has a word: they are {daemons.TOLD}") from None
+    hit = disturbance_in(row.disturbance)
+    if graph is None and hit.trace and row.graph == (start := hit.trace.start()).title:
+        graph = start
     graph = graph or graph_of(row.graph, undirected=undirected)
     if row.digest not in ("", graph.digest):
         raise RudekpiError(
             f"another row comes of it: the digest of {row.graph} is {graph.digest}, and not {row.digest}; is the graph "
             "another one?"
         )
-    hit = disturbance_in(row.disturbance)
     if not row.digest:
         hit = replace(hit, any_value=True)
     asked = row.maximum is not None, row.broken is not None

@@ -9,6 +9,7 @@ import sys
 from typing import Iterable, Iterator, Mapping, Optional, Sequence, TextIO
 
 from . import streams
+from .disturbances import FILED, Disturbance
 from .files import is_descriptor, write_whole
 from .rows import EARLIER, PARTNERS, FoundRow, Row, RowFile, lines_of_file, text_of
 from .simple_graph import Graph
@@ -65,14 +66,27 @@ class RowTarget:
     def rows(self) -> list[Row]:
         return [it.row for it in self.found]
 
-    def check(self, graphs: Mapping[str, Graph], has_maximum: bool, has_partners: bool = False) -> None:
-        """Raises `ValueError` if the rows that are there have other columns, or are of other graphs."""
+    def check(
+        self,
+        graphs: Mapping[str, Graph],
+        has_maximum: bool,
+        has_partners: bool = False,
+        hits: Iterable[Disturbance] = (),
+    ) -> None:
+        """Raises `ValueError` if the rows that are there have other columns, or are of other graphs.
+
+        Also if they are of a trace or of groups, among these disturbances, that have changed since.
+        """
         for column, is_asked in (("maximum", has_maximum), ("partners", has_partners)) if self.columns else ():
             name = PARTNERS[0] if column == "partners" else column
             if (name in self.columns) != is_asked:
                 has, do = ("no", "leave it out") if is_asked else ("a", "give it too")
                 raise ValueError(f"{self.path} has {has} column {name}, which --{column} adds: {do}")
+        files = {it.title: it.digest for hit in hits for it in (hit.trace, hit.racks) if it}
         for row, line, _ in self.found:
+            found = FILED.search(row.disturbance)
+            if found and files.get(found[2], found[3]) != found[3]:
+                raise ValueError(f"{self.path}: line {line}: the row is of another {found[2]}, which has changed since")
             digest = graphs[row.graph].digest if row.graph in graphs else row.digest
             if digest != row.digest:
                 raise ValueError(

@@ -22,7 +22,7 @@ from .audits import judged_epochs
 from .bursts import bound_of_costs, read_after
 from .choices import Daemon
 from .disturbances import Disturbance as Disturbance
-from .disturbances import Events
+from .disturbances import Events, units_of
 from .errors import Lost, RudekpiError
 from .graphs import from_networkx, is_networkx
 from .kept_graphs import Rows
@@ -40,6 +40,7 @@ from .workers import Handing, count_of
 AnyDaemon = Union[daemons.AnyDaemon, Daemon, str]
 MOST_EXPERIMENTS = 1_000_000
 TASK_SECONDS = 1.0
+LEFT = re.compile(r"^[0-9]+ leave [0-9]+ = ok$", re.MULTILINE)
 
 
 class LostExperiments(Lost):
@@ -126,8 +127,9 @@ class Experiment:
         drawn, wanted = random.Random(self.seed), self.disturbance
         nodes = list(self.graph.nodes)
         drawn.shuffle(nodes)
-        joining = set(nodes[: wanted.joins])
-        with Network(self.rules, self.graph.nodes, program=self.program) as net:
+        joining = self.joining(nodes)
+        names = wanted.names_in(self.graph)
+        with Network(self.rules, names, present=len(nodes), program=self.program) as net:
             self.begin(net, joining)
             daemon = daemons.named(self.daemon, self.seed) if isinstance(self.daemon, str) else self.daemon
             events = Events(wanted, self.graph, joining, drawn)
@@ -135,16 +137,26 @@ class Experiment:
             if not wanted.is_nothing:
                 net.settle(daemons.Seeded(self.seed))
                 quiet = net._session.entries
-                if not wanted.every:
+                if not wanted.is_one_by_one:
                     disturb_at_once(net, events, self.seed)
             before, player = net.status(), Player(net, daemon)
-            if wanted.every:
+            if wanted.is_one_by_one:
                 disturb_one_by_one(net, events, self.seed, player)
             player.settle()
             after = net.status()
         changes = None if wanted.any_value and wanted.faults else events.changes
         quiet = before.entry if quiet is None else quiet
-        return Played(net.transcript(), before, after, player.steps, player.moves, self.graph.nodes, changes, quiet)
+        return Played(net.transcript(), before, after, player.steps, player.moves, names, changes, quiet)
+
+    def joining(self, nodes: list[Name]) -> set[Name]:
+        """The nodes that join, the first of these or of random groups."""
+        wanted = self.disturbance
+        if not wanted.racks:
+            return set(nodes[: wanted.joins])
+        units = units_of(wanted, self.graph)
+        places = {name: place for place, name in enumerate(nodes)}
+        found = sorted(units, key=lambda unit: places[self.graph.nodes[unit[0] - 1]])[: wanted.joins]
+        return {self.graph.nodes[number - 1] for unit in found for number in unit}
 
     def measured(self, played: Played, began: float) -> Row:
         """The row of a run, whose transcript is judged here.
@@ -161,14 +173,15 @@ class Experiment:
         moves, last = sum(watch.moves.values()), epochs[-1]
         told = sum(epoch.moves for epoch in later) if later else last.moves - before.spent
         is_of_daemon = moves == told == played.moves and last.moves == after.spent
-        if not is_of_daemon or (later and not self.disturbance.every):
+        if not is_of_daemon or (later and not self.disturbance.is_one_by_one):
             raise RudekpiError(f"{self.told()}: the daemon itself disturbed the network")
         charge, bound = before.charge, last.bound
-        if self.disturbance.every:
+        if self.disturbance.is_one_by_one:
             # from silence to silence all moves are within the costs
             cost = sum(epoch.cost or 0 for epoch in later)
             charge += cost
-            bound = bound_of_costs(self.rules, cost, after.pairs - before.pairs, self.disturbance.leaves)
+            left = len(LEFT.findall("\n".join(played.transcript.splitlines()[before.entry + 1 :])))
+            bound = bound_of_costs(self.rules, cost, after.pairs - before.pairs, left)
         return Row(
             self.graph.title,
             self.rules,

@@ -346,7 +346,9 @@ class Command(Timed):
         self.assertEqual(self.done(f"{words} --partners --resume").returncode, 0)
         rows = (self.at / "rows.csv").read_text().splitlines()
         at = COLUMNS.index("seconds")
-        cells = [[line.split(",")[:at] + line.split(",")[at + 1 :] for line in text] for text in (rows, self.text(whole))]
+        cells = [
+            [line.split(",")[:at] + line.split(",")[at + 1 :] for line in text] for text in (rows, self.text(whole))
+        ]
         self.assertEqual(*cells)
         table = self.done("compare rows.csv").stdout.splitlines()
         self.assertTrue(table[0].endswith("lost untouched"))
