@@ -14,13 +14,13 @@ import unittest
 from dataclasses import astuple, replace
 from typing import Iterable, Optional, Sequence
 
-from rudekpi import Network, RudekpiError, bursts, graphs, sweep, sweeps
+from rudekpi import Network, RudekpiError, bursts, graphs, sweep
 from rudekpi.partners import NAMES, PartnerCounts, PartnerWatch, summed
 from rudekpi.plans import play_again
 from rudekpi.rows import COLUMNS, KNOWN, Row, RowFile, columns_of, read_csv, text_of
 from rudekpi.simple_graph import Graph
 from rudekpi.state import State
-from rudekpi.sweeps import Disturbance, Experiment
+from rudekpi.sweeps import Disturbance, experiments_of, run_all
 from rudekpi.tables import table_of
 from support import TOP, Timed
 
@@ -248,14 +248,14 @@ class Rows(Timed):
     def test_by_hand(self) -> None:
         # a pair alone: each pointer fault parts it, and the two find each other again in two moves of `least`
         pair = Graph("pair", (1, 2), ((1, 2),))
-        [row] = sweep([pair], ["hh"], ["least"], [1], [Disturbance(1)], partners=True)
+        [row] = run_all(experiments_of([pair], ["hh"], ["least"], [1], [Disturbance(1)], partners=True))
         # one is turned to null, and marries the other in one step of one round: each is alone for it
         self.assertEqual((row.steps, row.moves), (1, 1))
         self.assertEqual(tuple(getattr(row, name) for name in NAMES), (1, 1, 1, 2, 1, 2, 1, 0))
 
     def test_the_other_columns_stay(self) -> None:
         words = [graphs.ring(9)], ["hh", "manne"], ["seeded", "least"], range(2), HITS[1:5]
-        one, other = (sorted(map(repr, self.bare(sweep(*words, partners=it)))) for it in (True, False))
+        one, other = (self.bare(run_all(experiments_of(*words, partners=it))) for it in (True, False))
         self.assertEqual(one, other)
 
     def bare(self, rows: Iterable[Row]) -> list[Row]:
@@ -263,7 +263,7 @@ class Rows(Timed):
         return [replace(row, seconds=0.0, **nothing) for row in rows]
 
     def test_again(self) -> None:
-        [row] = sweep([graphs.ring(9)], ["manne"], ["least"], [4], [Disturbance(5)], partners=True)
+        [row] = run_all(experiments_of([graphs.ring(9)], ["manne"], ["least"], [4], [Disturbance(5)], partners=True))
         play_again(row)
         assert row.steps_alone is not None
         changed = replace(row, steps_alone=row.steps_alone + 1)

@@ -10,20 +10,25 @@ import pickle
 import subprocess
 import sys
 import unittest
-from typing import Any
+from typing import Any, Iterable
 
-from rudekpi import Racks, RudekpiError, graphs, read_racks, sweep
+from rudekpi import Racks, RudekpiError, graphs, read_racks
 from rudekpi.disturbances import Disturbance
 from rudekpi.partners import NAMES, PartnerCounts
 from rudekpi.plans import disturbance_in, plan_of
 from rudekpi.racks import Member
 from rudekpi.simple_graph import Graph
-from rudekpi.sweeps import Experiment
+from rudekpi.sweeps import Experiment, Row, experiments_of, run_all
 from support import TOP, Timed
 
 # two pairs; a and c stand in one rack, b in another, and d in none
 FOUR = Graph("four", ("a", "b", "c", "d"), (("a", "b"), ("c", "d")))
 RACKS = Racks("racks", (Member("a", "r1", 1), Member("c", "r1", 2), Member("b", "r2", 3)))
+
+
+def rows_of(rules: Iterable[str], seeds: Iterable[int], hit: Disturbance) -> list[Row]:
+    """The rows of a sweep with partners, made in this process."""
+    return run_all(experiments_of([FOUR], rules, ["least"], seeds, [hit], partners=True))
 
 
 def counts_of(row: object) -> PartnerCounts:
@@ -111,7 +116,7 @@ class Hits(Timed):
     def test_a_group_leaves(self) -> None:
         # a and c leave, and both pairs break at once; or b or d leaves alone. No link is left to a free node
         hit, seen = Disturbance(leaves=1, racks=RACKS), collections.Counter[int]()
-        for row in sweep([FOUR], ["hh", "manne"], ["least"], range(60), [hit], partners=True):
+        for row in rows_of(["hh", "manne"], range(60), hit):
             broken = {2: 2, 3: 1}[row.n]
             self.assertEqual((row.pairs, row.m, row.broken, row.remade), (2 - broken, 2 - broken, broken, 0))
             if row.rules == "hh":
@@ -139,7 +144,7 @@ class Hits(Timed):
         # a and c come with their links: each pair is new, by two moves under hh; or b or d comes, and one pair is
         for seed, every in itertools.product(range(12), (0, 1)):
             hit = Disturbance(joins=1, racks=RACKS, every=every)
-            [row] = sweep([FOUR], ["hh"], ["least"], [seed], [hit], partners=True)
+            [row] = rows_of(["hh"], [seed], hit)
             played = Experiment(FOUR, "hh", "least", seed, hit).played()
             events = [line.split(" ", 1)[1] for line in played.transcript.splitlines()[played.quiet + 1 :]]
             edits = [event for event in events if event.endswith(" = ok")]
@@ -160,7 +165,7 @@ class Hits(Timed):
     def test_a_group_has_faults(self) -> None:
         # the only other value of a pointer is null, from which the node marries its partner again: one move a node
         hit, seen = Disturbance(1, racks=RACKS), set()
-        for row in sweep([FOUR], ["hh"], ["least"], range(20), [hit], partners=True):
+        for row in rows_of(["hh"], range(20), hit):
             assert row.changes is not None
             self.assertEqual((row.moves, row.marry, row.pairs), (row.changes, row.changes, 2))
             # both pairs break: a and b wait for a step, c and d for two, all in the round that waits for a and c

@@ -17,7 +17,7 @@ from typing import Sequence
 
 from rudekpi import RudekpiError, graphs, maximum_matchings, sweep, sweeps
 from rudekpi.plans import disturbance_in, play_again, row_in
-from rudekpi.rows import COLUMNS, EARLIER, WITH_MAXIMUM, Row, RowFile, read_csv, text_of
+from rudekpi.rows import COLUMNS, EARLIER, WITH_MAXIMUM, Row, RowFile, columns_of, read_csv, text_of
 from rudekpi.simple_graph import Graph
 from support import TOP, Timed
 
@@ -292,7 +292,7 @@ class Sweeps(Timed):
 
     def test_columns_of_rows(self) -> None:
         [row] = sweep([graphs.path(3)], ["hh"], ["least"])
-        self.assertEqual(len(astuple(row)), len(WITH_MAXIMUM))
+        self.assertEqual(len(astuple(row)), len(columns_of(True, True)))
         self.assertEqual((row.changes, row.digest, row.maximum), (0, graphs.path(3).digest, None))
 
 

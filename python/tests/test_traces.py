@@ -22,7 +22,7 @@ from rudekpi.plans import disturbance_in, file_in, plan_of, play_again
 from rudekpi.plays import Mended
 from rudekpi.rows import RowFile, lines_of_file
 from rudekpi.simple_graph import Graph
-from rudekpi.sweeps import Experiment
+from rudekpi.sweeps import Experiment, experiments_of, run_all
 from support import TOP, Timed
 
 CHURN = """\
@@ -214,12 +214,13 @@ class Played(Of):
     def test_by_hand(self) -> None:
         """Under `least` and `hh`: ann and bob, later dan and cleo, and at last bob and cleo, find each other."""
         trace = self.trace(CHURN)
-        [row] = sweep([trace.start()], ["hh"], ["least"], [1], [Disturbance(trace=trace)], partners=True)
+        hit = Disturbance(trace=trace)
+        [row] = run_all(experiments_of([trace.start()], ["hh"], ["least"], [1], [hit], partners=True))
         # each time two steps in one round; the other lines leave the network silent
         self.assertEqual((row.steps, row.moves, row.rounds, row.pairs, row.n, row.m), (6, 6, 3, 1, 3, 1))
         # links cost 2 each; ann leaves bob with one other edge, and so has the cut pair of dan and cleo: 2 each
         self.assertEqual((row.charge, row.bound), (10, 10))
-        # ann leaves bob, dan is cut from cleo; two nodes of two steps each find each other, and again, and at last so do
+        # ann leaves bob, dan is cut from cleo; two nodes find each other in two steps, and again, and at last so do
         # bob and cleo, while dan stays alone: 4 + 4 + 6 steps, and a round for each of these nodes
         counts = PartnerCounts(2, 3, 0, 14, 2, 7, 1, 0)
         self.assertEqual(tuple(getattr(row, name) for name in NAMES), astuple(counts))
