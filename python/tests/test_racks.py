@@ -7,13 +7,14 @@ import itertools
 import os
 import pathlib
 import pickle
+import random
 import subprocess
 import sys
 import unittest
 from typing import Any, Iterable
 
 from rudekpi import Racks, RudekpiError, graphs, read_racks
-from rudekpi.disturbances import Disturbance
+from rudekpi.disturbances import Disturbance, Events
 from rudekpi.partners import NAMES, PartnerCounts
 from rudekpi.plans import disturbance_in, plan_of
 from rudekpi.racks import Member
@@ -115,8 +116,8 @@ class Files(Timed):
 class Hits(Timed):
     def test_a_group_leaves(self) -> None:
         # a and c leave, and both pairs break at once; or b or d leaves alone. No link is left to a free node
-        hit, seen = Disturbance(leaves=1, racks=RACKS), collections.Counter[int]()
-        for row in rows_of(["hh", "manne"], range(60), hit):
+        hit, seen = Disturbance(leaves=1, racks=RACKS), set()
+        for row in rows_of(["hh", "manne"], range(8), hit):
             broken = {2: 2, 3: 1}[row.n]
             self.assertEqual((row.pairs, row.m, row.broken, row.remade), (2 - broken, 2 - broken, broken, 0))
             if row.rules == "hh":
@@ -124,9 +125,18 @@ class Hits(Timed):
             else:
                 # each widow clears her flag, and is alone for that step and those of the other
                 self.assertEqual((row.moves, row.update), (broken, broken))
-            seen[broken] += 1
-        # one of three groups: 40 of 120, and not half as one of four nodes would be, give or take 3 deviations of 5.2
-        self.assertTrue(24 <= seen[2] <= 56, seen)
+            seen.add(broken)
+        self.assertEqual(seen, {1, 2})
+
+    def test_each_group_has_the_same_chance(self) -> None:
+        # 200 of 600 each, give or take three deviations of 11.5; by its nodes the first one would have 300
+        hit, seen = Disturbance(leaves=1, racks=RACKS), collections.Counter[str]()
+        for seed in range(600):
+            [event] = Events(hit, FOUR, set(), random.Random(seed)).edits()
+            self.assertEqual({word for word, _ in event}, {"leave"})
+            seen["".join(str(node) for _, (node,) in event)] += 1
+        self.assertEqual({*seen}, {"13", "2", "4"})
+        self.assertLess(max(abs(count - 200) for count in seen.values()), 35, seen)
 
     def test_they_leave_at_once(self) -> None:
         # with every too: nothing comes between the nodes of a group
@@ -142,7 +152,7 @@ class Hits(Timed):
 
     def test_a_group_joins(self) -> None:
         # a and c come with their links: each pair is new, by two moves under hh; or b or d comes, and one pair is
-        for seed, every in itertools.product(range(12), (0, 1)):
+        for seed, every in itertools.product(range(6), (0, 1)):
             hit = Disturbance(joins=1, racks=RACKS, every=every)
             [row] = rows_of(["hh"], [seed], hit)
             played = Experiment(FOUR, "hh", "least", seed, hit).played()
@@ -165,7 +175,7 @@ class Hits(Timed):
     def test_a_group_has_faults(self) -> None:
         # the only other value of a pointer is null, from which the node marries its partner again: one move a node
         hit, seen = Disturbance(1, racks=RACKS), set()
-        for row in rows_of(["hh"], range(20), hit):
+        for row in rows_of(["hh"], range(10), hit):
             assert row.changes is not None
             self.assertEqual((row.moves, row.marry, row.pairs), (row.changes, row.changes, 2))
             # both pairs break: a and b wait for a step, c and d for two, all in the round that waits for a and c
