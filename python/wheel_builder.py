@@ -48,7 +48,9 @@ rudekpi = rudekpi.__main__:main
 
 
 def version() -> str:
-    found: list[str] = re.findall(r'^__version__ = "([0-9.]+)"$', (PACKAGE / "__init__.py").read_text(), re.MULTILINE)
+    found: list[str] = re.findall(
+        r'^__version__ = "([0-9.]+)"$', (PACKAGE / "__init__.py").read_text(encoding="utf-8"), re.MULTILINE
+    )
     return found[0]
 
 
@@ -77,7 +79,7 @@ def page_maker() -> dict[str, pathlib.Path]:
 
 def program() -> bytes:
     """The program of release/, whole."""
-    found, told = beside("release/console").read_bytes(), beside("release/MADE_FROM").read_text()
+    found, told = beside("release/console").read_bytes(), beside("release/MADE_FROM").read_text(encoding="utf-8")
     if f"\nprogram {hashlib.sha256(found).hexdigest()}\n" not in told:
         raise ValueError("release/console is not the program of which release/MADE_FROM tells")
     return found
@@ -86,7 +88,7 @@ def program() -> bytes:
 def recorded_library(name: str, record: str) -> dict[str, bytes]:
     """A shared library of release/ by its name in the package. Raises `ValueError` if a record of release/ has
     other bytes of it."""
-    found, lines = beside(f"release/{name}").read_bytes(), beside(f"release/{record}").read_text()
+    found, lines = beside(f"release/{name}").read_bytes(), beside(f"release/{record}").read_text(encoding="utf-8")
     if not re.search(rf"^{re.escape(name)}\.\d+ {hashlib.sha256(found).hexdigest()}$", lines, re.MULTILINE):
         raise ValueError(f"release/{name} is not the library of which release/{record} tells")
     return {LIBRARY: found}

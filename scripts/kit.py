@@ -25,7 +25,7 @@ def require() -> None:
 def load() -> types.ModuleType:
     require()
     try:
-        page = subprocess.run(["rt", "doc"], capture_output=True, text=True, check=True).stdout.strip()
+        page = subprocess.run(["rt", "doc"], capture_output=True, encoding="utf-8", check=True).stdout.strip()
     except (OSError, subprocess.CalledProcessError) as wrong:
         sys.exit(f"{os.path.basename(sys.argv[0])}: the Rattle kit does not run: {wrong}")
     loader = importlib.machinery.SourceFileLoader("rtlib", f"{os.path.dirname(page)}/bin/rtlib.py")

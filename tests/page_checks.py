@@ -31,14 +31,14 @@ Told = tuple[bool, str]
 
 def rows(page: pathlib.Path) -> Iterator[tuple[int, list[str]]]:
     """Each with its line's number and its cells, except the line below the head."""
-    for number, line in enumerate(page.read_text().splitlines(), 1):
+    for number, line in enumerate(page.read_text(encoding="utf-8").splitlines(), 1):
         if line.startswith("| ") and line.endswith(" |"):
             yield number, [cell.strip() for cell in line[1:-1].replace("\\|", "\0").split("|")]
 
 
 def lengths(top: pathlib.Path) -> Iterator[Told]:
     for name, most in PAGES.items():
-        count = len((top / name).read_text().splitlines())
+        count = len((top / name).read_text(encoding="utf-8").splitlines())
         yield count <= most, f"{name} has {count} lines, and not {most} at most"
 
 
@@ -48,7 +48,7 @@ def contracts(top: pathlib.Path) -> tuple[dict[str, set[str]], set[str], set[str
     ghosts: set[str] = set()
     types: set[str] = set()
     for path in top.glob("crates/*/src/**/*.rt"):
-        text = path.read_text()
+        text = path.read_text(encoding="utf-8")
         found = [*FUNCTION.finditer(text)]
         for here, after in zip(found, [*found[1:], None]):
             # a contract ends where the next function begins; nothing between has `ensures`
@@ -57,7 +57,7 @@ def contracts(top: pathlib.Path) -> tuple[dict[str, set[str]], set[str], set[str
         ghosts.update(GHOST.findall(text))
         types.update(TYPE.findall(text))
     for path in top.glob("crates/*/specs/RulesLaws.antt"):
-        ghosts.update(FIELD.findall(path.read_text()))
+        ghosts.update(FIELD.findall(path.read_text(encoding="utf-8")))
         clauses.setdefault("laws", set())
     return clauses, ghosts, types
 
@@ -102,16 +102,16 @@ def definitions(top: pathlib.Path) -> Iterator[Told]:
 
 def anchors(top: pathlib.Path, pages: Iterable[pathlib.Path]) -> Iterator[Told]:
     for page in pages:
-        for target, anchor in re.findall(r"\]\(([^)#:]*)#([^)]+)\)", page.read_text()):
+        for target, anchor in re.findall(r"\]\(([^)#:]*)#([^)]+)\)", page.read_text(encoding="utf-8")):
             there = page.parent / target if target else page
-            headings = re.findall(r"^#+ (.+)$", there.read_text() if there.exists() else "", re.M)
+            headings = re.findall(r"^#+ (.+)$", there.read_text(encoding="utf-8") if there.exists() else "", re.M)
             slugs = [re.sub(r"[^\w -]", "", heading).lower().replace(" ", "-") for heading in headings]
             yield anchor in slugs, f"{page.name}: {target} has no heading {anchor}"
 
 
 def constants(top: pathlib.Path) -> dict[str, int]:
     named = re.compile(r"^pub const (MAX_\w+): \w+ = ([\d_]+);", re.M)
-    texts = (path.read_text() for path in top.glob("crates/*/src/*.rt"))
+    texts = (path.read_text(encoding="utf-8") for path in top.glob("crates/*/src/*.rt"))
     return {name: int(number) for text in texts for name, number in named.findall(text)}
 
 
@@ -126,12 +126,13 @@ def lines_in(top: pathlib.Path, folder: str) -> int:
 def figures(top: pathlib.Path) -> Iterator[Told]:
     """The kit, the crates, the limits, the refusals, and the numbers of lines."""
     readme, use, tree, costs = (
-        (top / name).read_text() for name in ("README.md", "docs/USE.md", "docs/ARCHITECTURE.md", "docs/COSTS.md")
+        (top / name).read_text(encoding="utf-8")
+        for name in ("README.md", "docs/USE.md", "docs/ARCHITECTURE.md", "docs/COSTS.md")
     )
-    kit = re.search(r"^kit (.+)$", (top / "release/MADE_FROM").read_text(), re.M)
+    kit = re.search(r"^kit (.+)$", (top / "release/MADE_FROM").read_text(encoding="utf-8"), re.M)
     assert kit is not None, "release/MADE_FROM names no kit"
     yield f"`{kit[1]}`" in readme, f"README.md: the kit is {kit[1]}"
-    named = re.findall(r"^(\w+)(?: staticlib)?:(.*)$", (top / "crates.txt").read_text(), re.M)
+    named = re.findall(r"^(\w+)(?: staticlib)?:(.*)$", (top / "crates.txt").read_text(encoding="utf-8"), re.M)
     ours = {name for name, _ in named}
     shown = set(re.findall(r"^ *(\w+)  ", tree.split("```")[1], re.M))
     yield shown == ours, f"ARCHITECTURE.md: its crates are not those of crates.txt: {sorted(shown ^ ours)}"
@@ -144,7 +145,7 @@ def figures(top: pathlib.Path) -> Iterator[Told]:
     for name, number in constants(top).items():
         if name not in ("MAX_NAME",):
             yield f"{number:,}" in limits, f"README.md: the limits do not name {name}, {number:,}"
-    refusal = (top / "crates/rule_machine/src/refusal.rt").read_text()
+    refusal = (top / "crates/rule_machine/src/refusal.rt").read_text(encoding="utf-8")
     numbers = dict(re.findall(r"Refusal::(\w+) => (\d+),", refusal))
     for name, text in re.findall(r'Refusal::(\w+) => "([\w-]+)"', refusal):
         yield f"`{numbers[name]} {text}`" in use, f"USE.md: the refusals do not name {numbers[name]} {text}"
@@ -157,7 +158,7 @@ def figures(top: pathlib.Path) -> Iterator[Told]:
 
 def help_lines(top: pathlib.Path) -> Iterator[Told]:
     """No line is wider than 80 columns, with clap's own words around it."""
-    text = (top / "crates/cli_args/src/help.rt").read_text()
+    text = (top / "crates/cli_args/src/help.rt").read_text(encoding="utf-8")
     around = {"RULES": 29, "WORKERS": 13, "ROAM": 13, "TURNS": 16}
     for name, value in re.findall(r'const (\w+): &str =\s+"((?:[^"\\]|\\.)*)";', text):
         short, kind = name.rpartition("_")[::2]
@@ -173,11 +174,11 @@ def help_lines(top: pathlib.Path) -> Iterator[Told]:
 def quotes(top: pathlib.Path) -> Iterator[Told]:
     """The mistake in README.md and PROMISES.md: its lines are in the linked file, its clause in the
     source."""
-    sources = [path.read_text() for path in top.glob("crates/locked_net/src/*.rt")]
+    sources = [path.read_text(encoding="utf-8") for path in top.glob("crates/locked_net/src/*.rt")]
     for page in (top / "README.md", top / "docs/PROMISES.md"):
-        text = page.read_text()
+        text = page.read_text(encoding="utf-8")
         linked = re.search(r"\]\(([^)]+\.edit)\)", text)
-        edit = (page.parent / linked[1]).read_text() if linked else ""
+        edit = (page.parent / linked[1]).read_text(encoding="utf-8") if linked else ""
         lines = re.findall(r"^((?:function|old|new): .+|ensures .+)$", text, re.M)
         yield len(lines) >= 3, f"{page.name}: no mistake is quoted"
         for line in lines:
@@ -191,7 +192,7 @@ def quotes(top: pathlib.Path) -> Iterator[Told]:
 
 def points(top: pathlib.Path) -> Iterator[Told]:
     """No point of DECISIONS.md has more than three lines."""
-    text = (top / "docs/DECISIONS.md").read_text()
+    text = (top / "docs/DECISIONS.md").read_text(encoding="utf-8")
     for point in re.findall(r"^- .*(?:\n  .*)*", text, re.M):
         yield point.count("\n") < 3, f"DECISIONS.md: more than three lines: {point[:60]}"
 
@@ -199,7 +200,7 @@ def points(top: pathlib.Path) -> Iterator[Told]:
 def one_crate_a_name(top: pathlib.Path) -> Iterator[Told]:
     crates: dict[str, set[str]] = {}
     for path in sorted(top.glob("crates/*/specs/**/*.antt")):
-        for name in PUBLIC.findall(path.read_text()):
+        for name in PUBLIC.findall(path.read_text(encoding="utf-8")):
             crates.setdefault(name, set()).add(path.relative_to(top).parts[1])
     for name, owners in sorted(crates.items()):
         yield len(owners) == 1, f"specs/: {name} is public in {', '.join(sorted(owners))}"
@@ -208,9 +209,9 @@ def one_crate_a_name(top: pathlib.Path) -> Iterator[Told]:
 def also_in_coq(top: pathlib.Path) -> Iterator[Told]:
     """The theorems that COMPARED.md names exist, and it has a row for each one of PROMISES.md with a mark."""
     page, promises = top / "independent/COMPARED.md", top / "docs/PROMISES.md"
-    proofs = "".join(path.read_text() for path in top.glob("independent/*/*.v"))
+    proofs = "".join(path.read_text(encoding="utf-8") for path in top.glob("independent/*/*.v"))
     theorems = set(re.findall(r"^Theorem (\w+)", proofs, re.M))
-    text = page.read_text().split("## Also in Coq")[1].split("\n## ")[0]
+    text = page.read_text(encoding="utf-8").split("## Also in Coq")[1].split("\n## ")[0]
     table = [line for line in text.splitlines() if re.match(r"\| (?!promise \||-)", line)]
     marked = sum(cells[0].startswith("† ") for _, cells in rows(promises))
     yield len(table) == marked > 0, f"{page.name}: {len(table)} rows, and {marked} of {promises.name} have a mark"

@@ -26,7 +26,7 @@ def last_burst(pages: Pages, text: bytes) -> int:
         file.write(text)
     words = [sys.executable, "-B", "-m", "rudekpi", "bursts", "--program", pages.program, path]
     env = {**os.environ, "PYTHONPATH": f"{TOP}/python"}
-    told = subprocess.run(words, env=env, stdin=subprocess.DEVNULL, capture_output=True, text=True, check=True)
+    told = subprocess.run(words, env=env, stdin=subprocess.DEVNULL, capture_output=True, encoding="utf-8", check=True)
     *_, row = csv.DictReader(told.stdout.splitlines())
     return int(row["moves"])
 

@@ -50,7 +50,7 @@ class WebKit:
         words = [SCREEN, "-displayfd", str(told), "-screen", "0", f"{width}x{height}x24", "-nolisten", "tcp"]
         self.runs.append(subprocess.Popen(words, stdin=quiet, stdout=quiet, stderr=quiet, pass_fds=[told]))
         os.close(told)
-        with os.fdopen(heard) as file:
+        with os.fdopen(heard, encoding="utf-8") as file:
             display = file.readline().strip()
         if not display:
             raise BrowserFault("Xvfb does not start")

@@ -103,7 +103,7 @@ def by_script(counts: tally.Tally, program: str, *words: str) -> None:
     """Counts what engines.py or differ.py compares."""
     environment = {**os.environ, "CONSOLE": program, "AUDIT2": AUDIT2, "RUN2": RUN2}
     command = [sys.executable, str(HERE / words[0]), *words[1:]]
-    done = subprocess.run(command, env=environment, stdout=subprocess.PIPE, stderr=subprocess.STDOUT, text=True)
+    done = subprocess.run(command, env=environment, stdout=subprocess.PIPE, stderr=subprocess.STDOUT, encoding="utf-8")
     counts.print(done.stdout.rstrip("\n"))
     found = SUMMARY.search(done.stdout)
     texts, differ = (int(found[1]), int(found[2])) if found else (0, 0)

@@ -59,7 +59,7 @@ def apply(edit: tuple[str, str, str], folder: pathlib.Path) -> int:
 
 def by_proofs(folder: pathlib.Path, changed: dict[str, int]) -> tuple[str, str]:
     """How a build ends: whether a proof stops, and its place; nothing if all is proved."""
-    built = subprocess.run(["./build"], cwd=folder, stdout=subprocess.PIPE, stderr=subprocess.STDOUT, text=True)
+    built = subprocess.run(["./build"], cwd=folder, stdout=subprocess.PIPE, stderr=subprocess.STDOUT, encoding="utf-8")
     if built.returncode == 0:
         return "", ""
     fault = FAULT.search(built.stdout)
@@ -81,7 +81,7 @@ def found(mistake: Mistake, program: str, folder: pathlib.Path) -> tuple[str, st
         return "axioms", "tests/assumptions"
     places = {name.upper(): str(folder / "out" / name) for name in ("audit2", "run2", "different")}
     words = [sys.executable, str(HERE / "compare.py"), "--program", program, "--scripts", "100"]
-    compared = subprocess.run(words, env={**os.environ, **places}, capture_output=True, text=True)
+    compared = subprocess.run(words, env={**os.environ, **places}, capture_output=True, encoding="utf-8")
     last = compared.stdout.rstrip().rpartition("\n")[2]
     return ("comparison" if compared.returncode == 1 else "nothing"), last
 

@@ -8,7 +8,7 @@ import subprocess
 import sys
 from typing import Optional, Sequence
 
-from . import __version__, streams
+from . import __version__, outputs, streams
 from .errors import Ended, RudekpiError
 from .program import found_program
 
@@ -79,6 +79,10 @@ def begun(words: Sequence[str]) -> int:
     if word in COMMANDS or (word == "picture" and any(it.partition("=")[0] == "--names" for it in rest)):
         return done(words)
     if word in OF_PROGRAM:
+        try:
+            outputs.refuse_clashes([], ["-"])
+        except ValueError as error:
+            return told(error, BAD_WORDS)
         return handed_on(words)
     near = difflib.get_close_matches(word, [*COMMANDS, *OF_PROGRAM], 1)
     hint = f"{near[0]!r} may be meant" if near else f"they are {', '.join([*COMMANDS, *OF_PROGRAM])}"

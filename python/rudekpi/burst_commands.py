@@ -7,6 +7,7 @@ import csv
 import sys
 from typing import Callable
 
+from . import outputs
 from .bursts import bursts, head_of, row_of
 from .errors import Damaged
 from .log_commands import names_given, read, words_of_names
@@ -16,6 +17,7 @@ Command = Callable[[str, Callable[[argparse.Namespace], int], str], argparse.Arg
 
 
 def run_bursts(given: argparse.Namespace) -> int:
+    outputs.refuse_clashes([], [given.transcript, given.names])
     try:
         found = bursts(read(given.transcript), names=names_given(given), program=given.program, partners=given.partners)
     except Damaged as damaged:

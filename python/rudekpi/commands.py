@@ -400,6 +400,7 @@ def nodes_told(found: Longest, names: Optional[str]) -> str:
 
 
 def run_check(given: argparse.Namespace) -> int:
+    outputs.refuse_clashes([], [given.script])
     script = read(given.script)
     count = 0
     for count, (number, why) in enumerate(script_words.faults_of(script), 1):
@@ -420,6 +421,7 @@ def run_shell(given: argparse.Namespace) -> int:
 
 
 def run_json(given: argparse.Namespace) -> int:
+    outputs.refuse_clashes([], [given.transcript, given.names])
     transcript = read(given.transcript)
     try:
         audit(transcript, program=given.program)

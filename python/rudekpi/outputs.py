@@ -43,11 +43,12 @@ def refuse_clashes(writes: Iterable[Optional[str]], reads: Iterable[Optional[str
     """Raises `ValueError` if a file that is to be written is also read, or is to be written twice.
 
     `-` is standard input among what is read, and standard output among what is written; None is left out.
+    Standard output is always among what is written: `>> FILE` may have opened it on a file that is read.
     Links are followed. Devices, pipes and terminals are no files. Opens nothing.
     """
     read = {where: path for path in reads if (where := identity(path, 0)) is not None}
     written: dict[Identity, str] = {}
-    for path in writes:
+    for path in (STANDARD, *writes):
         where = identity(path, 1)
         if path is None or where is None:
             continue
@@ -55,7 +56,8 @@ def refuse_clashes(writes: Iterable[Optional[str]], reads: Iterable[Optional[str
             raise ValueError(
                 f"{told(path, 'output')} would be written over {told(read[where], 'input')}, which is read"
             )
-        if where in written:
+        # another name of an open stream appends to it
+        if where in written and path != STANDARD and not is_descriptor(path):
             raise ValueError(f"{told(path, 'output')} would be written twice, also as {told(written[where], 'output')}")
         written[where] = path
 

@@ -71,7 +71,7 @@ def samples() -> list[tuple[str, list[str]]]:
     """Logs with their rules, from the examples with few nodes."""
     found = []
     for path in sorted(EXAMPLES.glob("*.transcript")):
-        text = path.read_text()
+        text = path.read_text(encoding="utf-8")
         if len(text) < 20_000:
             found.append((text.split(" ")[1], log_of(text)))
     return found

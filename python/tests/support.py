@@ -13,8 +13,9 @@ import sys
 import tempfile
 import threading
 import time
+import types
 import unittest
-from typing import Any, Callable, Container, TypeVar, Union
+from typing import Any, Callable, Container, Optional, TypeVar, Union
 from unittest import mock
 
 from rudekpi import Accepted, Base, Enabled, Fault, Matching, Moves, Network, Refused, Shown, Status, Wish
@@ -45,8 +46,9 @@ class Timed(unittest.TestCase):
         chosen.start()
         self.addCleanup(chosen.stop)
 
-        def stop(*_: object) -> None:
-            raise AssertionError(f"no end after {BUSY * self.seconds} seconds")
+        def stop(_: int, frame: Optional[types.FrameType]) -> None:
+            if is_in_test(frame):
+                raise AssertionError(f"no end after {BUSY * self.seconds} seconds")
 
         before = signal.signal(signal.SIGALRM, stop)
         self.addCleanup(signal.signal, signal.SIGALRM, before)
@@ -92,6 +94,15 @@ class Timed(unittest.TestCase):
         while is_group(run.pid):
             time.sleep(0.01)
         return said
+
+
+def is_in_test(frame: Optional[types.FrameType]) -> bool:
+    """Whether a frame belongs to a test, and not to the report of one, which an exception would break off."""
+    names = set()
+    while frame is not None:
+        names.add(frame.f_code.co_name)
+        frame = frame.f_back
+    return "testPartExecutor" not in names and bool(names & {"_callSetUp", "_callTestMethod", "_callCleanup"})
 
 
 def children() -> list[int]:

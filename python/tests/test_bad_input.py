@@ -128,7 +128,7 @@ class Given(Timed):
     def test_pages_that_can_not_be_written(self) -> None:
         folder = self.folder()
         before, after = os.path.join(folder, "before.html"), os.path.join(folder, "after.html")
-        with open(before, "w") as file:
+        with open(before, "w", encoding="utf-8") as file:
             file.write("as it was")
         with Network("hh", 2) as net:
             soft, hard = resource.getrlimit(resource.RLIMIT_FSIZE)
@@ -140,7 +140,7 @@ class Given(Timed):
             finally:
                 resource.setrlimit(resource.RLIMIT_FSIZE, (soft, hard))
             self.assertEqual(os.listdir(folder), ["before.html"])
-            with open(before) as file:
+            with open(before, encoding="utf-8") as file:
                 self.assertEqual(file.read(), "as it was")
             os.chmod(before, 0o640)
             os.symlink("before.html", after)
@@ -148,7 +148,7 @@ class Given(Timed):
             self.assertTrue(os.path.islink(after))
             self.assertEqual(os.stat(before).st_mode & 0o777, 0o640)
             self.assertEqual(sorted(os.listdir(folder)), ["after.html", "before.html"])
-            with open(before) as file:
+            with open(before, encoding="utf-8") as file:
                 self.assertEqual(file.readline(), "<!DOCTYPE html>\n")
 
 
@@ -209,7 +209,7 @@ class Children(Timed):
                 os._exit(0)
             os.waitpid(child, 0)
             os.close(come)
-            with open(go) as file:
+            with open(go, encoding="utf-8") as file:
                 *said, shown, entry = file.read().splitlines()
             words = "the network belongs to another process, of which this one is a child: "
             words += "ask it there, or replay its transcript here"

@@ -49,7 +49,11 @@ matching manne 3
 def rudekpi(*words: str, given: str = "") -> subprocess.CompletedProcess[str]:
     paths = dict(os.environ, PYTHONPATH=os.path.join(TOP, "python"))
     return subprocess.run(
-        [sys.executable, "-m", "rudekpi", "bursts", *words], input=given, env=paths, capture_output=True, text=True
+        [sys.executable, "-m", "rudekpi", "bursts", *words],
+        input=given,
+        env=paths,
+        capture_output=True,
+        encoding="utf-8",
     )
 
 
@@ -274,7 +278,7 @@ class Command(Timed):
     def test_streams(self) -> None:
         line = f"{sys.executable} -m rudekpi bursts > /dev/full"
         paths = dict(os.environ, PYTHONPATH=os.path.join(TOP, "python"))
-        done = subprocess.run(["bash", "-c", line], input=ROW, env=paths, capture_output=True, text=True)
+        done = subprocess.run(["bash", "-c", line], input=ROW, env=paths, capture_output=True, encoding="utf-8")
         self.assertEqual((done.returncode, done.stderr), (3, "! write failed: No space left on device\n"))
 
 

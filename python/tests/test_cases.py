@@ -59,7 +59,7 @@ class Rows(Timed):
         super().setUp()
         worked, turns, joins = (cases_of(f"{name}.cases", "run") for name in ("worked_examples", "turns", "joins"))
         self.cases = [case for case in worked + turns + joins if case.status == 0]
-        written = pathlib.Path(TOP, "tests", "worked_examples.cases").read_text().count("\ncase ")
+        written = pathlib.Path(TOP, "tests", "worked_examples.cases").read_text(encoding="utf-8").count("\ncase ")
         self.assertEqual(len([case for case in worked if case.status == 0]), written, "each worked example is played")
         self.assertGreater(len(turns), 5)
         self.assertGreater(len([case for case in joins if case.status == 0]), 5)

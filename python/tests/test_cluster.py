@@ -104,23 +104,23 @@ class Cluster(Timed):
     def test_a_file_that_has_changed_is_judged_again(self) -> None:
         # distributed answers equal calls with its earlier answer, while that is referenced
         path, executor = pathlib.Path(self.folder(), "transcript"), self.client.get_executor()
-        path.write_text("matching hh 2\n1 link 1 2 = no\n")
+        path.write_text("matching hh 2\n1 link 1 2 = no\n", encoding="utf-8")
         try:
             audit_parts(path, executor, shared=True)
         except Damaged as error:
             held = error
-        path.write_text("matching hh 2\n1 link 1 2 = ok\n")
+        path.write_text("matching hh 2\n1 link 1 2 = ok\n", encoding="utf-8")
         self.assertEqual(audit_parts(path, executor, shared=True).entries, 1)
         self.assertEqual(held.line, 2)
 
     def test_by_the_command_line(self) -> None:
         import json
 
-        with open(self.file) as file:
+        with open(self.file, encoding="utf-8") as file:
             address = json.load(file)["address"]
         words = [sys.executable, "-m", "rudekpi", "sweep", "--graph", "ring:9", "--seeds", "6", "--dask", address]
         done = subprocess.run(
-            words, env=dict(os.environ, PYTHONPATH=os.path.join(TOP, "python")), capture_output=True, text=True
+            words, env=dict(os.environ, PYTHONPATH=os.path.join(TOP, "python")), capture_output=True, encoding="utf-8"
         )
         self.assertEqual((done.returncode, len(done.stdout.splitlines())), (0, 7), done.stderr)
 
@@ -134,7 +134,7 @@ class WithoutDistributed(Timed):
             [sys.executable, "-c", hides],
             env=dict(os.environ, PYTHONPATH=os.path.join(TOP, "python")),
             capture_output=True,
-            text=True,
+            encoding="utf-8",
         )
         self.assertEqual(
             (done.returncode, done.stderr.splitlines()[-1]), (1, "! --dask wants distributed, which is not there")

@@ -38,7 +38,7 @@ def rudekpi(*words: str, given: str = "") -> subprocess.CompletedProcess[str]:
         input=given,
         env=environment(),
         capture_output=True,
-        text=True,
+        encoding="utf-8",
     )
 
 
@@ -50,16 +50,23 @@ def said(*words: str, given: str = "") -> str:
 
 
 def rudekpi_version() -> str:
-    told = subprocess.run([os.environ["RUDEKPI_CONSOLE"], "--version"], capture_output=True, text=True, check=True)
+    told = subprocess.run(
+        [os.environ["RUDEKPI_CONSOLE"], "--version"], capture_output=True, encoding="utf-8", check=True
+    )
     return told.stdout.split()[1]
 
 
 class HandedOn(Timed):
     def test_what_the_program_does(self) -> None:
-        text = pathlib.Path(TOP, "examples", "pair.transcript").read_text()
+        text = pathlib.Path(TOP, "examples", "pair.transcript").read_text(encoding="utf-8")
         self.assertEqual(
             said(
-                "run", "--rules", "hh", "--nodes", "2", given=pathlib.Path(TOP, "examples", "pair.script").read_text()
+                "run",
+                "--rules",
+                "hh",
+                "--nodes",
+                "2",
+                given=pathlib.Path(TOP, "examples", "pair.script").read_text(encoding="utf-8"),
             ),
             text,
         )
@@ -67,14 +74,16 @@ class HandedOn(Timed):
         self.assertEqual(said("epochs", given=text).splitlines()[0], "start,moves,edges,nodes,bound,cost")
         console = [os.environ["RUDEKPI_CONSOLE"]]
         for words in (["run", "--help"], ["run"], ["audit", "--none"]):
-            done, wanted = rudekpi(*words), subprocess.run(console + words, capture_output=True, text=True)
+            done, wanted = rudekpi(*words), subprocess.run(console + words, capture_output=True, encoding="utf-8")
             self.assertEqual(
                 (done.returncode, done.stdout, done.stderr), (wanted.returncode, wanted.stdout, wanted.stderr)
             )
         for words in (["--help"], ["-h"], ["help"]):
             text = said(*words)
             self.assertIn("sweep, compare, worst, check, shell, json, conform, explain, bursts, again", text)
-            self.assertTrue(text.endswith(subprocess.run([*console, *words], capture_output=True, text=True).stdout))
+            self.assertTrue(
+                text.endswith(subprocess.run([*console, *words], capture_output=True, encoding="utf-8").stdout)
+            )
         done = rudekpi("sweeep")
         self.assertEqual(
             (done.returncode, done.stdout, done.stderr),
@@ -101,7 +110,7 @@ class HandedOn(Timed):
             : 3 if self.engine == "program" else 2
         ]:
             done = subprocess.run(
-                [sys.executable, "-m", "rudekpi", *words], env=without, capture_output=True, text=True
+                [sys.executable, "-m", "rudekpi", *words], env=without, capture_output=True, encoding="utf-8"
             )
             self.assertEqual(done.returncode, 3, done.stderr)
             self.assertIn("/no/such/program", done.stderr)
@@ -114,9 +123,11 @@ class Streams(Timed):
     def told(self, words: str, status: int = 3) -> str:
         """The standard error; expects no other output, and this status."""
         path = os.path.join(self.folder(), "script")
-        pathlib.Path(path).write_text(PAIR)
+        pathlib.Path(path).write_text(PAIR, encoding="utf-8")
         line = f"{sys.executable} -m rudekpi {words}".replace("SCRIPT", path)
-        done = subprocess.run(["bash", "-c", line], env=environment(), capture_output=True, text=True, timeout=50)
+        done = subprocess.run(
+            ["bash", "-c", line], env=environment(), capture_output=True, encoding="utf-8", timeout=50
+        )
         self.assertEqual(done.returncode, status, done)
         self.assertEqual(done.stdout.replace("matching manne 3\n", ""), "")
         lines = [line for line in done.stderr.splitlines() if "the bound is" not in line]
@@ -149,13 +160,13 @@ class Streams(Timed):
     def test_a_reader_that_goes(self) -> None:
         sweep = f"{sys.executable} -m rudekpi sweep --graph path:4 --seeds 300 --processes 1"
         line = f"{sweep} | head -1; exit ${{PIPESTATUS[0]}}"
-        done = subprocess.run(["bash", "-c", line], env=environment(), capture_output=True, text=True)
+        done = subprocess.run(["bash", "-c", line], env=environment(), capture_output=True, encoding="utf-8")
         self.assertEqual((done.returncode, done.stdout.count("\n")), (3, 1))
         self.assertEqual(done.stderr, "! write failed: Broken pipe\n")
 
     def test_no_standard_error(self) -> None:
         line = f"{sys.executable} -m rudekpi worst --graph path:4 2>&-"
-        done = subprocess.run(["bash", "-c", line], env=environment(), capture_output=True, text=True)
+        done = subprocess.run(["bash", "-c", line], env=environment(), capture_output=True, encoding="utf-8")
         self.assertEqual(done.returncode, 0)
         self.assertEqual(done.stdout, said("worst", "--graph", "path:4"))
         line = f"{sys.executable} -m rudekpi check <&- 2>&-"
@@ -163,7 +174,7 @@ class Streams(Timed):
 
     def test_what_is_nested_too_deeply(self) -> None:
         path = os.path.join(self.folder(), "deep.transcript")
-        pathlib.Path(path).write_text("[" * 100_000)
+        pathlib.Path(path).write_text("[" * 100_000, encoding="utf-8")
         self.assertIn("line 1: bad header", rudekpi("json", path).stderr)
         why = rudekpi("check", path)
         self.assertEqual((why.returncode, why.stderr), (1, ""))
@@ -185,7 +196,7 @@ class Bench(Timed):
     def test_sweep(self) -> None:
         folder = self.folder()
         edges, rows = os.path.join(folder, "edges.txt"), os.path.join(folder, "out.csv")
-        pathlib.Path(edges).write_text("1 2\n2 3\n3 4\n4 1\n")
+        pathlib.Path(edges).write_text("1 2\n2 3\n3 4\n4 1\n", encoding="utf-8")
         words = [
             "--graph",
             edges,
@@ -201,7 +212,7 @@ class Bench(Timed):
             "0,5",
         ]
         self.assertEqual(said("sweep", *words, "--csv", rows, "--processes", "2"), "")
-        with open(rows) as file:
+        with open(rows, encoding="utf-8") as file:
             made = sweeps.read_csv(file)
         self.assertEqual(len(made), 2 * 3 * 2 * (2 + 3))
         self.assertEqual({row.graph for row in made}, {edges, "path:6"})
@@ -240,25 +251,25 @@ class Bench(Timed):
     def test_worst_of_nodes_with_names(self) -> None:
         folder = self.folder()
         path, script = os.path.join(folder, "edges"), os.path.join(folder, "script")
-        pathlib.Path(path).write_text("10 20\n20 30\n")
+        pathlib.Path(path).write_text("10 20\n20 30\n", encoding="utf-8")
         done = rudekpi("worst", "--graph", path, "--rules", "hh", "--output", script)
         self.assertEqual((done.returncode, done.stdout), (0, ""))
         setting = "--rules hh --nodes 30 --present 0"
         # 2m + n is 7; the table of the longest schedules has 4 for a path of three
         self.assertIn(": 4 moves, the longest of all", done.stderr)
         self.assertTrue(done.stderr.endswith(f"; to play it: rudekpi run {setting}\n"), done.stderr)
-        lines = pathlib.Path(script).read_text().splitlines()
+        lines = pathlib.Path(script).read_text(encoding="utf-8").splitlines()
         self.assertEqual(lines[:5], ["join 10", "join 20", "join 30", "link 10 20", "link 20 30"])
-        played = said("run", *setting.split(" "), given=pathlib.Path(script).read_text())
+        played = said("run", *setting.split(" "), given=pathlib.Path(script).read_text(encoding="utf-8"))
         self.assertEqual(played.splitlines()[-1].split(" ", 3)[3], "nodes=3 edges=2 pairs=1 enabled=0 charge=0 spent=4")
         self.assertNotIn("refused", played)
         self.assertEqual(played, said("worst", "--graph", path, "--rules", "hh", "--transcript"))
-        pathlib.Path(path).write_text("ann bob\nbob cleo\n")
+        pathlib.Path(path).write_text("ann bob\nbob cleo\n", encoding="utf-8")
         done = rudekpi("worst", "--graph", path, "--rules", "hh", "--output", script)
         end = f"rudekpi run --rules hh --nodes 3; the nodes 1 to 3 are ann, bob, cleo: {script}.names\n"
         self.assertTrue(done.stderr.endswith(end), done.stderr)
-        self.assertEqual(pathlib.Path(script + ".names").read_text(), '"ann"\n"bob"\n"cleo"\n')
-        played = said("run", "--rules", "hh", "--nodes", "3", given=pathlib.Path(script).read_text())
+        self.assertEqual(pathlib.Path(script + ".names").read_text(encoding="utf-8"), '"ann"\n"bob"\n"cleo"\n')
+        played = said("run", "--rules", "hh", "--nodes", "3", given=pathlib.Path(script).read_text(encoding="utf-8"))
         self.assertTrue(played.endswith("spent=4\n"), played)
 
     def test_no_flag_is_abbreviated(self) -> None:
@@ -279,7 +290,7 @@ class Bench(Timed):
                 if path.is_file() and (
                     path.suffix == ".py" or (not path.suffix and b"python3" in path.read_bytes()[:40])
                 ):
-                    parsers = re.findall(r"ArgumentParser\(\s*[^)]{0,30}", path.read_text())
+                    parsers = re.findall(r"ArgumentParser\(\s*[^)]{0,30}", path.read_text(encoding="utf-8"))
                     self.assertEqual([it for it in parsers if "allow_abbrev=False" not in it], [], path)
 
     def test_what_is_left_out_is_told(self) -> None:
@@ -334,7 +345,7 @@ class Bench(Timed):
             paths = [os.path.join(folder, f"out{number}.svg") for number in range(2)]
             for path in paths:
                 said("sweep", *words, "--seeds", "2", "--plot", path, "--processes", "1")
-            texts = [pathlib.Path(path).read_text() for path in paths]
+            texts = [pathlib.Path(path).read_text(encoding="utf-8") for path in paths]
             self.assertIn("<svg", texts[0])
         for path, status in (("out.txt", 2), ("/no/such/folder/out.svg", 3)):
             done = rudekpi("sweep", "--graph", "ring:6", "--plot", path)
@@ -343,7 +354,7 @@ class Bench(Timed):
         from rudekpi import plots
 
         path = os.path.join(folder, "run.png")
-        plots.of_run(script.read_text(), path)
+        plots.of_run(script.read_text(encoding="utf-8"), path)
         self.assertGreater(os.path.getsize(path), 5000)
 
     def test_the_charge_over_a_run(self) -> None:
@@ -371,16 +382,16 @@ class Bench(Timed):
             "--csv",
             path,
         ]
-        with subprocess.Popen(words, env=environment(), stderr=subprocess.PIPE, text=True) as run:
+        with subprocess.Popen(words, env=environment(), stderr=subprocess.PIPE, encoding="utf-8") as run:
             last = time.monotonic() + 30
             while time.monotonic() < last and not (
-                os.path.exists(path) and pathlib.Path(path).read_text().count("\n") > 3
+                os.path.exists(path) and pathlib.Path(path).read_text(encoding="utf-8").count("\n") > 3
             ):
                 time.sleep(0.05)
             run.send_signal(signal.SIGINT)
             told = run.communicate()[1]
         self.assertEqual(run.returncode, 130, told)
-        with open(path) as file:
+        with open(path, encoding="utf-8") as file:
             made = sweeps.read_csv(file)
         self.assertTrue(2 < len(made) < 3000)
         self.assertIn(f"! cut short: {len(made)} of 3000 rows are there", told)

@@ -131,8 +131,8 @@ class Verdicts(Timed):
         path = os.path.join(self.folder(), "t")
         lines = ['{"nodes": ["\\u00e9", 7, "a b"], "capacity": 4}', '{"join": "z"}', '{"link": [7, "a b"]}']
         self.assertTrue(conform(lines, "hh", transcript=path))
-        self.assertEqual(pathlib.Path(path).read_text().splitlines()[2], "2 link 2 3 = ok")
-        names = pathlib.Path(path + ".names").read_text().splitlines()
+        self.assertEqual(pathlib.Path(path).read_text(encoding="utf-8").splitlines()[2], "2 link 2 3 = ok")
+        names = pathlib.Path(path + ".names").read_text(encoding="utf-8").splitlines()
         self.assertEqual([json.loads(name) for name in names], ["\u00e9", 7, "a b", "z"])
 
     def test_why_a_move_is_not_allowed(self) -> None:
@@ -385,8 +385,8 @@ class Command(Timed):
             ],
         )
         self.assertEqual(said[-2][:36], "not accepted, 1 divergence: 6 events")
-        audit(pathlib.Path(transcript).read_text())
-        self.assertEqual(pathlib.Path(transcript + ".names").read_text(), '"a"\n"b"\n"c"\n"d"\n')
+        audit(pathlib.Path(transcript).read_text(encoding="utf-8"))
+        self.assertEqual(pathlib.Path(transcript + ".names").read_text(encoding="utf-8"), '"a"\n"b"\n"c"\n"d"\n')
 
     def test_statuses_of_what_is_no_log(self) -> None:
         cases: tuple[tuple[list[str], bytes, int, str], ...] = (
@@ -407,13 +407,13 @@ class Command(Timed):
     def test_no_file_is_lost(self) -> None:
         log, old = os.path.join(self.folder(), "log"), os.path.join(self.folder(), "old")
         pathlib.Path(log).write_bytes(text_of(HH))
-        pathlib.Path(old).write_text("old")
+        pathlib.Path(old).write_text("old", encoding="utf-8")
         for words, status in (((log, "--output", log), 2), (("/none", "--output", old), 3)):
             done = rudekpi("conform", "--rules", "hh", *words)
             self.assertEqual((done.returncode, done.stdout), (status, b""))
         done = rudekpi("conform", "--rules", "hh", "--output", old, given=b"x\n")
         self.assertEqual(done.returncode, 2)
-        self.assertEqual(pathlib.Path(old).read_text(), "old")
+        self.assertEqual(pathlib.Path(old).read_text(encoding="utf-8"), "old")
         self.assertEqual(pathlib.Path(log).read_bytes(), text_of(HH))
         self.assertFalse(os.path.exists(old + ".names"))
 
@@ -425,7 +425,7 @@ class Command(Timed):
             (">&-", "! write failed: Bad file descriptor\n"),
         ):
             line = f"{sys.executable} -m rudekpi conform --rules hh {path} {words}"
-            done = subprocess.run(["bash", "-c", line], env=environment(), capture_output=True, text=True)
+            done = subprocess.run(["bash", "-c", line], env=environment(), capture_output=True, encoding="utf-8")
             self.assertEqual((done.returncode, done.stdout, done.stderr), (3, "", told))
 
     def test_a_pipe_is_judged_as_it_comes_and_may_be_cut_short(self) -> None:
@@ -486,7 +486,7 @@ class OwnNodes(Timed):
         path = pathlib.Path(self.folder(), "log")
         example = [sys.executable, os.path.join(TOP, "examples", "own_nodes.py"), "--log", str(path), *words]
         engine = dict(os.environ, RUDEKPI_ENGINE=self.engine_of_example)
-        done = subprocess.run(example, env=engine, capture_output=True, text=True)
+        done = subprocess.run(example, env=engine, capture_output=True, encoding="utf-8")
         self.assertEqual(done.stderr, "")
         rules = words[words.index("--rules") + 1]
         found = conform(path, rules, engine=self.engine_of_example)
@@ -526,7 +526,7 @@ class OwnNodes(Timed):
                 self.assertRegex(said, why)
 
     def test_it_imports_conform_and_the_rule_alone(self) -> None:
-        with open(os.path.join(TOP, "examples", "own_nodes.py")) as file:
+        with open(os.path.join(TOP, "examples", "own_nodes.py"), encoding="utf-8") as file:
             own = [line for line in file if "rudekpi" in line and "import" in line]
         wanted = ["from rudekpi import conform  # noqa: E402\n", "        from rudekpi import local_rule\n"]
         self.assertEqual(own, wanted)

@@ -14,7 +14,9 @@ from support import TOP, Timed
 
 def printed(name: str, seed: str = "1") -> list[str]:
     words = [sys.executable, os.path.join(TOP, "examples", name)]
-    done = subprocess.run(words, env=dict(os.environ, PYTHONHASHSEED=seed), cwd="/", capture_output=True, text=True)
+    done = subprocess.run(
+        words, env=dict(os.environ, PYTHONHASHSEED=seed), cwd="/", capture_output=True, encoding="utf-8"
+    )
     if done.returncode or done.stderr:
         raise AssertionError(f"{name} ended with status {done.returncode}: {done.stderr}")
     return done.stdout.splitlines()
@@ -98,13 +100,13 @@ class Examples(Timed):
             self.assertEqual(printed(name), printed(name, seed="2"))
 
     def test_the_page_prints_what_it_says(self) -> None:
-        with open(os.path.join(TOP, "docs", "PYTHON.md")) as file:
+        with open(os.path.join(TOP, "docs", "PYTHON.md"), encoding="utf-8") as file:
             found = re.search(r"```python\n(.*?)```.*?```\n(.*?)```", file.read(), re.DOTALL)
         assert found is not None
         code, said = found.groups()
         words = [sys.executable, "-c", code]
         paths = dict(os.environ, PYTHONPATH=os.path.join(TOP, "python"))
-        done = subprocess.run(words, env=paths, cwd="/", capture_output=True, text=True)
+        done = subprocess.run(words, env=paths, cwd="/", capture_output=True, encoding="utf-8")
         self.assertEqual((done.returncode, done.stderr, done.stdout), (0, "", said))
         # by hand: 1 and 2 seduce, 3 marries 2, 2 and 3 update, and 1 abandons; 2 links and 3 nodes are a
         # charge of 7

@@ -18,7 +18,7 @@ try:
 except ImportError:
     matplotlib = None
 
-PAGE = pathlib.Path(TOP, "docs", "EXPERIMENTS.md").read_text()
+PAGE = pathlib.Path(TOP, "docs", "EXPERIMENTS.md").read_text(encoding="utf-8")
 
 
 def run(*words: str) -> subprocess.CompletedProcess[str]:
@@ -26,7 +26,7 @@ def run(*words: str) -> subprocess.CompletedProcess[str]:
         [sys.executable, *words],
         env=dict(os.environ, PYTHONPATH=os.path.join(TOP, "python")),
         capture_output=True,
-        text=True,
+        encoding="utf-8",
     )
 
 
@@ -102,8 +102,8 @@ class Scripts(Timed):
         for path in paths[:2]:
             done = run(os.path.join(TOP, "bench", "moves"), "--sizes", "6,10", "--seeds", "2", "--csv", paths[2], path)
             self.assertEqual((done.returncode, done.stderr), (0, ""))
-            self.assertIn("<svg", pathlib.Path(path).read_text())
-        self.assertEqual(len(pathlib.Path(paths[2]).read_text().splitlines()), 1 + 2 * 2 * 2 * 2)
+            self.assertIn("<svg", pathlib.Path(path).read_text(encoding="utf-8"))
+        self.assertEqual(len(pathlib.Path(paths[2]).read_text(encoding="utf-8").splitlines()), 1 + 2 * 2 * 2 * 2)
 
 
 if __name__ == "__main__":

@@ -41,7 +41,11 @@ FLAGS = "matching manne 3\n1 link 1 2 = ok\n2 link 2 3 = ok\n"
 def rudekpi(*words: str, given: str = "") -> subprocess.CompletedProcess[str]:
     paths = dict(os.environ, PYTHONPATH=os.path.join(TOP, "python"))
     return subprocess.run(
-        [sys.executable, "-m", "rudekpi", "explain", *words], input=given, env=paths, capture_output=True, text=True
+        [sys.executable, "-m", "rudekpi", "explain", *words],
+        input=given,
+        env=paths,
+        capture_output=True,
+        encoding="utf-8",
     )
 
 
@@ -260,7 +264,7 @@ class Command(Timed):
         done = rudekpi(given=PAIR)
         self.assertEqual((done.returncode, done.stdout), (0, "accepted: 7 entries, 2 epochs, 2 moves\n"))
         path = os.path.join(self.folder(), "t")
-        pathlib.Path(path).write_text(PAIR.replace("2:marry>1", "2:update"))
+        pathlib.Path(path).write_text(PAIR.replace("2:marry>1", "2:update"), encoding="utf-8")
         done = rudekpi(path)
         self.assertEqual((done.returncode, done.stderr), (1, ""))
         self.assertTrue(done.stdout.startswith("line 6: not the machine's reply\n"))
@@ -272,7 +276,7 @@ class Command(Timed):
         paths = dict(os.environ, PYTHONPATH=os.path.join(TOP, "python"))
         for words, told in (("> /dev/full", "! write failed: No space left"), ("<&-", "! read failed: Bad file")):
             line = f"{sys.executable} -m rudekpi explain {words} {'' if '<' in words else '< /dev/null'}"
-            done = subprocess.run(["bash", "-c", line], env=paths, capture_output=True, text=True)
+            done = subprocess.run(["bash", "-c", line], env=paths, capture_output=True, encoding="utf-8")
             self.assertEqual((done.returncode, done.stdout), (3, ""))
             self.assertTrue(done.stderr.startswith(told), done.stderr)
 

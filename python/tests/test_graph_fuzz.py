@@ -50,7 +50,7 @@ class Damaged(Timed):
     def edges_of(self, end: str, text: str) -> Optional[tuple[set[str], set[frozenset[str]]]]:
         """Read under a name with this extension, as texts; None if refused."""
         path = pathlib.Path(self.folder(), f"a{end}")
-        path.write_text(text)
+        path.write_text(text, encoding="utf-8")
         with warnings.catch_warnings():
             warnings.simplefilter("ignore")
             try:

@@ -18,7 +18,7 @@ class Words(Timed):
 
     def file(self, name: str, text: str) -> str:
         path = os.path.join(self.folder(), name)
-        pathlib.Path(path).write_text(text)
+        pathlib.Path(path).write_text(text, encoding="utf-8")
         return path
 
     def expect_refused(self, why: str, *words: str) -> None:

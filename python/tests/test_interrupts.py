@@ -407,7 +407,7 @@ class Sessions(Timed):
         uses = "import rudekpi; net = rudekpi.Network('hh', 2); net.link(1, 2); print(net._session.talk.run.numbers[0])"
         words = [sys.executable, "-X", "dev", "-W", "error", "-c", uses]
         done = subprocess.run(
-            words, env=dict(os.environ, PYTHONPATH=os.path.join(TOP, "python")), capture_output=True, text=True
+            words, env=dict(os.environ, PYTHONPATH=os.path.join(TOP, "python")), capture_output=True, encoding="utf-8"
         )
         self.assertEqual((done.returncode, done.stderr), (0, ""))
         self.assertFalse(os.path.exists(f"/proc/{int(done.stdout)}"))

@@ -27,7 +27,7 @@ MIXED = Graph("mine/λ", ("zoe", 7, ("a", (1, "b")), "7"), ((7, "zoe"), (("a", (
 def rudekpi(*words: str, folder: Optional[str] = None) -> subprocess.CompletedProcess[str]:
     environment = dict(os.environ, PYTHONPATH=os.path.join(TOP, "python"))
     command = [sys.executable, "-m", "rudekpi", *words]
-    return subprocess.run(command, cwd=folder, env=environment, capture_output=True, text=True)
+    return subprocess.run(command, cwd=folder, env=environment, capture_output=True, encoding="utf-8")
 
 
 class Networkx:
@@ -47,7 +47,7 @@ class Networkx:
 
 def swept(path: str, given: list[Any], **more: Any) -> list[sweeps.Row]:
     words: Any = given, ["hh", "manne"], ["seeded", "least"], [3], [0, Disturbance(cut=1, joins=1, every=1)]
-    with open(path, "w", newline="") as file:
+    with open(path, "w", newline="", encoding="utf-8") as file:
         return list(sweeps.write_csv(sweep(*words, processes=1, **more), file))
 
 
@@ -76,21 +76,24 @@ class Kept(Timed):
         done = rudekpi("again", "rows.csv", "2", "--output", "t", "--page", "p.html", folder=folder)
         self.assertEqual((done.returncode, done.stdout, done.stderr), (0, "", ""))
         self.assertEqual(read_names(os.path.join(folder, "t.names")), ["zoe", 7, "('a', (1, 'b'))", "7"])
-        self.assertIn('["zoe", "zoe"]', pathlib.Path(folder, "p.html").read_text())
-        self.assertEqual(rudekpi("again", "rows.csv", "2", folder=folder).stdout, pathlib.Path(folder, "t").read_text())
+        self.assertIn('["zoe", "zoe"]', pathlib.Path(folder, "p.html").read_text(encoding="utf-8"))
+        self.assertEqual(
+            rudekpi("again", "rows.csv", "2", folder=folder).stdout,
+            pathlib.Path(folder, "t").read_text(encoding="utf-8"),
+        )
         kept = pathlib.Path(self.path + ".graphs", "mine%2F%CE%BB.json")
-        whole = kept.read_text()
+        whole = kept.read_text(encoding="utf-8")
         for text, why in (
             ("{", "no JSON of a graph"),
             ("[]", "no graph that a sweep has kept"),
             ('{"nodes": [{"id": {}}], "links": []}', "no graph that a sweep has kept"),
             ('{"nodes": [{"id": 1}, {"id": 1}], "links": []}', "a node is there twice"),
         ):
-            kept.write_text(text)
+            kept.write_text(text, encoding="utf-8")
             done = rudekpi("again", "rows.csv", "2", folder=folder)
             self.assertEqual((done.returncode, done.stdout), (2, ""))
             self.assertIn(why, done.stderr)
-        kept.write_text(whole.replace('"links":[', '"links":[{"source":"zoe","target":"7"},'))
+        kept.write_text(whole.replace('"links":[', '"links":[{"source":"zoe","target":"7"},'), encoding="utf-8")
         done = rudekpi("again", "rows.csv", "2", folder=folder)
         self.assertEqual(done.returncode, 1)
         self.assertIn("is the graph another one?", done.stderr)
@@ -101,7 +104,7 @@ class Kept(Timed):
 
     def test_what_is_kept(self) -> None:
         read = os.path.join(os.path.dirname(self.path), "edges")
-        pathlib.Path(read).write_text("a b\n")
+        pathlib.Path(read).write_text("a b\n", encoding="utf-8")
         # a word's, a file's
         swept(self.path, [graphs.grid(2, 2), graphs.read(read)])
         self.assertFalse(os.path.exists(self.path + ".graphs"))
@@ -120,7 +123,7 @@ class Kept(Timed):
         with warnings.catch_warnings(record=True) as told:
             warnings.simplefilter("always")
             rows = sweep([odd], ["hh"], ["least"], processes=1, executor=None)
-            with open(self.path, "w", newline="") as file, contextlib.suppress(Exception):
+            with open(self.path, "w", newline="", encoding="utf-8") as file, contextlib.suppress(Exception):
                 next(iter(sweeps.write_csv(rows, file)))
         self.assertIn("odd: the graph is not kept, and its rows do not play again", str(told[0].message))
         self.assertFalse(os.path.exists(self.path + ".graphs"))
@@ -128,7 +131,7 @@ class Kept(Timed):
     def test_rows_that_go_on(self) -> None:
         made = swept(self.path, [MIXED])
         before = os.stat(kept_graphs.path_of(self.path, MIXED.title)).st_size
-        with open(self.path, "a", newline="") as file:
+        with open(self.path, "a", newline="", encoding="utf-8") as file:
             more = list(sweeps.write_csv(sweep([MIXED], seeds=[9], processes=1, there=made), file, True))
             self.assertEqual([row.seed for row in more], [9])
             other = Graph(MIXED.title, MIXED.nodes, MIXED.edges[:1])
@@ -155,7 +158,7 @@ class Kept(Timed):
             done = rudekpi(command, *words.split(), folder=folder)
             self.assertEqual((done.returncode, done.stderr), (0, ""))
             self.assertEqual(json.dumps(os.listdir(folder).count("rows.csv.graphs")), "0")
-            with open(self.path, newline="") as file:
+            with open(self.path, newline="", encoding="utf-8") as file:
                 self.assertEqual({(row.graph, row.n, row.m) for row in sweeps.read_csv(file)}, {("named.txt", 5, 2)})
             done = rudekpi("again", "rows.csv", "1", "--output", "t", folder=folder)
             self.assertEqual(done.returncode, 0, done.stderr)

@@ -60,7 +60,7 @@ class Chosen(Timed):
         libc = next(
             (
                 line.split()[-1]
-                for line in pathlib.Path("/proc/self/maps").read_text().splitlines()
+                for line in pathlib.Path("/proc/self/maps").read_text(encoding="utf-8").splitlines()
                 if "/libc.so" in line or "/libc-" in line
             ),
             None,
@@ -563,7 +563,9 @@ class Memory(Timed):
 
     def test_that_is_refused_for_a_reply_is_told_with_its_entry(self) -> None:
         environment = dict(os.environ, PYTHONPATH=os.path.join(TOP, "python"))
-        done = subprocess.run([sys.executable, "-c", SHORT_OF_MEMORY], env=environment, capture_output=True, text=True)
+        done = subprocess.run(
+            [sys.executable, "-c", SHORT_OF_MEMORY], env=environment, capture_output=True, encoding="utf-8"
+        )
         self.assertEqual((done.returncode, done.stderr), (0, ""), done.stdout)
         *told, whole = done.stdout.splitlines()
         self.assertEqual([line for line in told if " entr" in line], [])
@@ -602,7 +604,10 @@ class Memory(Timed):
         uses = "import rudekpi; net = rudekpi.Network('hh', 2); net.link(1, 2); net.me = net; print(net.engine)"
         environment = dict(os.environ, PYTHONPATH=os.path.join(TOP, "python"))
         done = subprocess.run(
-            [sys.executable, "-X", "dev", "-W", "error", "-c", uses], env=environment, capture_output=True, text=True
+            [sys.executable, "-X", "dev", "-W", "error", "-c", uses],
+            env=environment,
+            capture_output=True,
+            encoding="utf-8",
         )
         self.assertEqual((done.returncode, done.stdout, done.stderr), (0, "library\n", ""))
 

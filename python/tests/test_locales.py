@@ -2,14 +2,12 @@
 
 from __future__ import annotations
 
-import ast
 import os
 import pathlib
 import shutil
 import subprocess
 import sys
 import unittest
-from typing import Iterator, Optional
 
 from support import TOP, Timed
 
@@ -25,10 +23,6 @@ matching hh 2
 # names beyond ASCII, and one beyond ISO 8859-1
 NAMES = "Zoë\nĐặng\n"
 GRAPH = "Zoë Đặng\nĐặng Bob\n"
-OPENING = ("open", "read_text", "write_text", "TextIOWrapper", "NamedTemporaryFile", "TemporaryFile")
-# those that open a file for text unless a mode says `b`
-MODES = {"open": ("r", 1), "NamedTemporaryFile": ("w+b", 0), "TemporaryFile": ("w+b", 0)}
-FOLDERS = ("python/rudekpi", "scripts", "examples", "bench")
 
 
 def rudekpi(words: list[str], folder: str, environment: dict[str, str]) -> subprocess.CompletedProcess[bytes]:
@@ -93,64 +87,6 @@ class Locales(Timed):
         done = subprocess.run(words, env={**os.environ, **ASCII}, stdin=subprocess.DEVNULL, capture_output=True)
         self.assertEqual(done.returncode, 0, done.stdout.decode()[-2000:])
         self.assertIn(b" passed, 0 failed", done.stdout)
-
-
-class Openings(unittest.TestCase):
-    def sources(self) -> Iterator[pathlib.Path]:
-        for folder in FOLDERS:
-            for path in sorted(pathlib.Path(TOP, folder).rglob("*")):
-                if path.is_file() and (path.suffix == ".py" or path.read_bytes().startswith(b"#!/usr/bin/env python")):
-                    yield path
-
-    def test_each_file_is_opened_with_its_encoding(self) -> None:
-        found = [f"{os.path.relpath(path, TOP)}:{line}" for path in self.sources() for line in bare_openings(path)]
-        self.assertEqual(found, [], "a file of text is opened without an encoding")
-
-    def test_which_openings_are_bare(self) -> None:
-        path = pathlib.Path(__file__).with_name("none.py")
-        for text, is_bare in (
-            ("open(path)", True),
-            ("open(path, 'w', newline='')", True),
-            ("open(path, 'wb')", False),
-            ("open(path, encoding='utf-8')", False),
-            ("os.open(path, flags)", False),
-            ("path.open('rb')", False),
-            ("path.open()", True),
-            ("path.read_text()", True),
-            ("path.read_text('utf-8')", False),
-            ("path.write_text(text)", True),
-            ("path.write_text(text, encoding='utf-8')", False),
-            ("io.TextIOWrapper(file)", True),
-            ("io.TextIOWrapper(file, 'utf-8')", False),
-            ("tempfile.TemporaryFile()", False),
-            ("tempfile.TemporaryFile('w')", True),
-        ):
-            with self.subTest(text):
-                self.assertEqual([*bare_openings(path, text)], [1] if is_bare else [])
-
-
-def bare_openings(path: pathlib.Path, text: Optional[str] = None) -> Iterator[int]:
-    """The lines of a source that open a file for text without an encoding."""
-    read = path.read_text(encoding="utf-8") if text is None else text
-    for node in ast.walk(ast.parse(read)):
-        if isinstance(node, ast.Call) and is_bare(node):
-            yield node.lineno
-
-
-def is_bare(call: ast.Call) -> bool:
-    given = call.func
-    name = given.id if isinstance(given, ast.Name) else given.attr if isinstance(given, ast.Attribute) else ""
-    is_method = isinstance(given, ast.Attribute)
-    owner = given.value.id if isinstance(given, ast.Attribute) and isinstance(given.value, ast.Name) else ""
-    if name not in OPENING or owner == "os" or any(word.arg == "encoding" for word in call.keywords):
-        return False
-    if name in ("read_text", "write_text", "TextIOWrapper"):
-        return len(call.args) <= (name != "read_text")
-    usual, place = MODES[name]
-    place -= is_method and name == "open" and owner not in ("io", "gzip")
-    modes = [word.value for word in call.keywords if word.arg == "mode"] + call.args[place : place + 1]
-    mode = modes[0].value if modes and isinstance(modes[0], ast.Constant) else usual
-    return "b" not in str(mode)
 
 
 if __name__ == "__main__":

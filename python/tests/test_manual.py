@@ -28,7 +28,7 @@ def of_parser() -> dict[str, list[str]]:
 
 class Manual(Timed):
     def test_it_has_each_command_and_flag(self) -> None:
-        text = pathlib.Path(MANUAL).read_text()
+        text = pathlib.Path(MANUAL).read_text(encoding="utf-8")
         for name, flags in of_parser().items():
             self.assertRegex(text, rf"(?m)^\.It Cm {name}\b")
             for flag in flags:
@@ -47,7 +47,7 @@ class Manual(Timed):
             self.skipTest("neither mandoc nor man")
         for words in there:
             environment = dict(os.environ, LC_ALL="C.UTF-8", MANWIDTH="80", MANPAGER="cat")
-            done = subprocess.run(words, capture_output=True, text=True, env=environment)
+            done = subprocess.run(words, capture_output=True, encoding="utf-8", env=environment)
             with self.subTest(words[0]):
                 self.assertEqual(
                     (done.returncode, done.stderr), (0, ""), done.stdout[:300] if words[0] == "mandoc" else ""
@@ -67,7 +67,7 @@ class Completions(Timed):
         )
         for name, flags in of_parser().items():
             done = subprocess.run(
-                ["bash", "-c", script, "bash", name], cwd=TOP, capture_output=True, text=True, check=True
+                ["bash", "-c", script, "bash", name], cwd=TOP, capture_output=True, encoding="utf-8", check=True
             )
             with self.subTest(name):
                 self.assertEqual(sorted(done.stdout.split()), sorted(flags))
@@ -78,7 +78,7 @@ class Completions(Timed):
         for name, flags in of_parser().items():
             script = f"source scripts/completion.fish; complete -C 'rudekpi {name} --'"
             done = subprocess.run(
-                ["fish", "--no-config", "-c", script], cwd=TOP, capture_output=True, text=True, check=True
+                ["fish", "--no-config", "-c", script], cwd=TOP, capture_output=True, encoding="utf-8", check=True
             )
             offered = {line.split("\t")[0] for line in done.stdout.splitlines()}
             with self.subTest(name):
@@ -88,7 +88,7 @@ class Completions(Timed):
         if not shutil.which("zsh"):
             self.skipTest("no zsh")
         script = "autoload -U compinit; compinit -D; . scripts/completion.zsh; print $_comps[rudekpi] $_comps[console]"
-        done = subprocess.run(["zsh", "-fc", script], cwd=TOP, capture_output=True, text=True)
+        done = subprocess.run(["zsh", "-fc", script], cwd=TOP, capture_output=True, encoding="utf-8")
         self.assertEqual((done.returncode, done.stdout, done.stderr), (0, "_rudekpi _rudekpi\n", ""))
 
 

@@ -74,7 +74,7 @@ class Graphs(Timed):
         graph = networkx.Graph([("ann", "bob"), ("bob", (1, 2))], name="who meets whom")
         graph.add_node("alone")
         path = os.path.join(self.folder(), "rows.csv")
-        with open(path, "w", newline="") as file:
+        with open(path, "w", newline="", encoding="utf-8") as file:
             rows = list(sweeps.write_csv(sweep([graph], ["hh", "manne"], faults=[0, 2], processes=1), file))
         self.assertEqual({(row.graph, row.n, row.m) for row in rows}, {("who meets whom", 4, 2)})
         kept = kept_graphs.kept_graph(path, "who meets whom")

@@ -31,7 +31,7 @@ class Folder(Timed):
         self.at = pathlib.Path(self.folder())
         shutil.copy(os.path.join(TOP, "examples", "pair.transcript"), self.at / "t")
         for name, text in (("g.txt", EDGES), ("log", LOG), ("p.json", PLAN), ("names", "ann\nbob\n")):
-            (self.at / name).write_text(text)
+            (self.at / name).write_text(text, encoding="utf-8")
 
     def run_in(self, *words: str, given: Optional[str] = None) -> subprocess.CompletedProcess[str]:
         """Runs a command; its standard input is the file `given`, if any."""
@@ -43,7 +43,7 @@ class Folder(Timed):
                 cwd=self.at,
                 env=environment,
                 capture_output=True,
-                text=True,
+                encoding="utf-8",
             )
 
     def held(self) -> dict[str, bytes]:
@@ -85,7 +85,7 @@ class Clashes(Folder):
         for name in ("link", "hard", "./t"):
             words = ["page", "t", "--output", name]
             self.refuse(words, f"{name} would be written over t, which is read")
-        (self.at / "log.names").write_text(LOG)
+        (self.at / "log.names").write_text(LOG, encoding="utf-8")
         words = ["conform", "--rules", "hh", "log.names", "--output", "log"]
         self.refuse(words, "log.names would be written over log.names, which is read")
 
@@ -106,7 +106,82 @@ class Clashes(Folder):
             words = [sys.executable, "-m", "rudekpi", "worst", "--graph", "g.txt", "--output", "-"]
             done = subprocess.run(words, stdout=file, stderr=subprocess.PIPE, cwd=self.at, env=environment)
         self.assertEqual(done.stderr, b"! standard output would be written over g.txt, which is read\n")
-        self.assertEqual((done.returncode, (self.at / "g.txt").read_text()), (2, EDGES))
+        self.assertEqual((done.returncode, (self.at / "g.txt").read_text(encoding="utf-8")), (2, EDGES))
+
+    def test_standard_output_that_appends(self) -> None:
+        """As by `>> FILE`: what is read is not made longer by what is written."""
+        self.assertEqual(self.run_in(*SWEEP, "--csv", "rows.csv").returncode, 0)
+        (self.at / "script").write_text("link 1 2\n", encoding="utf-8")
+        for words, given in (
+            (["json", "t"], "t"),
+            (["json", "t", "--names", "names"], "names"),
+            (["bursts", "t"], "t"),
+            (["picture", "t", "--names", "names"], "t"),
+            (["check", "script"], "script"),
+            (["conform", "--rules", "hh", "log"], "log"),
+            (["again", "rows.csv", "1"], "rows.csv"),
+            (["again", "rows.csv", "1"], "g.txt"),
+            (["compare", "rows.csv"], "rows.csv"),
+            ([*SWEEP], "g.txt"),
+            (["sweep", "p.json", "--processes", "1"], "p.json"),
+            (["worst", "--graph", "g.txt"], "g.txt"),
+        ):
+            self.refuse_appending(
+                words,
+                given,
+                f"standard output would be written over {given}, which is read",
+            )
+
+    def test_standard_streams_that_are_one_file(self) -> None:
+        why = "standard output would be written over standard input, which is read"
+        for words in (
+            ["json"],
+            ["bursts"],
+            ["check"],
+            ["audit"],
+            ["picture"],
+            ["epochs"],
+        ):
+            self.refuse_appending(words, "t", why, is_input=True)
+        self.refuse_appending(["run", "--rules", "hh", "--nodes", "2"], "names", why, is_input=True)
+
+    def refuse_appending(self, words: Sequence[str], name: str, why: str, is_input: bool = False) -> None:
+        before = self.held()
+        environment = dict(os.environ, PYTHONPATH=os.path.join(TOP, "python"))
+        with open(self.at / name, "ab") as out, open(self.at / name if is_input else os.devnull, "rb") as file:
+            done = subprocess.run(
+                [sys.executable, "-m", "rudekpi", *words],
+                stdin=file,
+                stdout=out,
+                stderr=subprocess.PIPE,
+                cwd=self.at,
+                env=environment,
+            )
+        with self.subTest(words=words, appends_to=name):
+            self.assertEqual((done.returncode, done.stderr.decode()), (2, f"! {why}\n"))
+            self.assertEqual(self.held(), before)
+
+    def test_an_output_beside_standard_output(self) -> None:
+        environment = dict(os.environ, PYTHONPATH=os.path.join(TOP, "python"))
+        words = [
+            sys.executable,
+            "-m",
+            "rudekpi",
+            "worst",
+            "--graph",
+            "path:3",
+            "--output",
+        ]
+        with open(self.at / "new", "wb") as out:
+            done = subprocess.run(
+                [*words, "new"],
+                stdout=out,
+                stderr=subprocess.PIPE,
+                cwd=self.at,
+                env=environment,
+            )
+        self.assertEqual(done.stderr, b"! new would be written twice, also as standard output\n")
+        self.assertEqual((done.returncode, (self.at / "new").read_bytes()), (2, b""))
 
     def test_two_outputs(self) -> None:
         self.assertEqual(self.run_in(*SWEEP, "--csv", "rows.csv").returncode, 0)
@@ -135,17 +210,17 @@ class Rows(Folder):
         done = self.run_in("sweep", "p.json", "--csv", "rows.csv", "--force", "--resume")
         self.assertEqual((done.returncode, self.held()), (2, before))
         self.assertIn("give one of them", done.stderr)
-        (self.at / "rows.csv").write_text("precious\n")
+        (self.at / "rows.csv").write_text("precious\n", encoding="utf-8")
         done = self.run_in("sweep", "p.json", "--csv", "rows.csv", "--force")
         self.assertEqual((done.returncode, done.stderr), (0, ""))
-        self.assertEqual((self.at / "rows.csv").read_text().count("\n"), 2)
+        self.assertEqual((self.at / "rows.csv").read_text(encoding="utf-8").count("\n"), 2)
 
     def test_force_is_too_late_for_a_sweep_that_cannot_begin(self) -> None:
-        (self.at / "rows.csv").write_text("precious\n")
+        (self.at / "rows.csv").write_text("precious\n", encoding="utf-8")
         for words in (["--daemon", "fair"], ["--program", "/none"], ["--rules", "hh", "--daemon", "local"]):
             done = self.run_in(*SWEEP, "--csv", "rows.csv", "--force", *words)
             self.assertIn(done.returncode, (2, 3))
-            self.assertEqual((self.at / "rows.csv").read_text(), "precious\n")
+            self.assertEqual((self.at / "rows.csv").read_text(encoding="utf-8"), "precious\n")
 
     def test_an_empty_file_and_streams(self) -> None:
         (self.at / "rows.csv").touch()
@@ -155,7 +230,7 @@ class Rows(Folder):
             self.assertEqual((done.returncode, done.stdout.count("\n")), (0, 3), done.stderr)
         self.assertEqual(self.run_in(*SWEEP, "--csv", "/dev/null").returncode, 0)
         os.mkfifo(self.at / "pipe")
-        reader = subprocess.Popen(["cat", self.at / "pipe"], stdout=subprocess.PIPE, text=True)
+        reader = subprocess.Popen(["cat", self.at / "pipe"], stdout=subprocess.PIPE, encoding="utf-8")
         self.assertEqual(self.run_in(*SWEEP, "--csv", "pipe").returncode, 0)
         self.assertEqual(reader.communicate()[0].count("\n"), 3)
         self.assertTrue(stat.S_ISFIFO(os.stat(self.at / "pipe").st_mode))
@@ -163,7 +238,7 @@ class Rows(Folder):
 
 class Whole(Folder):
     def test_links_are_followed_and_modes_kept(self) -> None:
-        (self.at / "old").write_text("old")
+        (self.at / "old").write_text("old", encoding="utf-8")
         os.chmod(self.at / "old", 0o640)
         (self.at / "link").symlink_to("old")
         (self.at / "new").symlink_to("made")
@@ -171,7 +246,7 @@ class Whole(Folder):
             done = self.run_in("worst", "--graph", "path:3", "--output", name)
             self.assertEqual(done.returncode, 0, done.stderr)
         self.assertTrue((self.at / "link").is_symlink() and (self.at / "new").is_symlink())
-        self.assertEqual((self.at / "made").read_text(), (self.at / "old").read_text())
+        self.assertEqual((self.at / "made").read_text(encoding="utf-8"), (self.at / "old").read_text(encoding="utf-8"))
         self.assertEqual(stat.S_IMODE(os.stat(self.at / "old").st_mode), 0o640)
         self.assertEqual([name for name in self.held() if name.startswith(".")], [])
 
@@ -184,7 +259,7 @@ class Whole(Folder):
                 before = os.fstat(file.fileno()).st_ino
                 done = subprocess.run(words, stdout=file, stderr=subprocess.PIPE, cwd=self.at, env=environment)
             self.assertEqual((done.returncode, os.stat(self.at / "got").st_ino), (0, before))
-            self.assertIn("link 1 2\n", (self.at / "got").read_text())
+            self.assertIn("link 1 2\n", (self.at / "got").read_text(encoding="utf-8"))
 
     def test_a_write_that_fails_leaves_the_old_file(self) -> None:
         path = str(self.at / "t")
@@ -199,23 +274,23 @@ class Whole(Folder):
             self.assertEqual(caught.exception.filename, name)
 
     def test_a_transcript_of_conform(self) -> None:
-        (self.at / "c").write_text("old")
+        (self.at / "c").write_text("old", encoding="utf-8")
         # the log's third line is no event
-        (self.at / "log").write_text(LOG.replace('{"move"', "{"))
+        (self.at / "log").write_text(LOG.replace('{"move"', "{"), encoding="utf-8")
         done = self.run_in("conform", "--rules", "hh", "log", "--output", "c")
         self.assertEqual(done.returncode, 2, done.stderr)
-        self.assertEqual((self.at / "c").read_text(), "matching hh 2\n1 link 1 2 = ok\n")
-        self.assertEqual((self.at / "c.names").read_text(), '"ann"\n"bob"\n')
+        self.assertEqual((self.at / "c").read_text(encoding="utf-8"), "matching hh 2\n1 link 1 2 = ok\n")
+        self.assertEqual((self.at / "c.names").read_text(encoding="utf-8"), '"ann"\n"bob"\n')
         # the first line is none: the older file stays
-        (self.at / "log").write_text("x\n")
+        (self.at / "log").write_text("x\n", encoding="utf-8")
         self.assertEqual(self.run_in("conform", "--rules", "hh", "log", "--output", "c").returncode, 2)
-        self.assertEqual((self.at / "c").read_text(), "matching hh 2\n1 link 1 2 = ok\n")
+        self.assertEqual((self.at / "c").read_text(encoding="utf-8"), "matching hh 2\n1 link 1 2 = ok\n")
         self.assertEqual([name for name in self.held() if name.startswith(".")], [])
 
     def test_a_log_that_is_cut_short(self) -> None:
         """Until the end the older file stays; then the transcript so far takes its place."""
         environment = dict(os.environ, PYTHONPATH=os.path.join(TOP, "python"))
-        (self.at / "c").write_text("old")
+        (self.at / "c").write_text("old", encoding="utf-8")
         words = [sys.executable, "-m", "rudekpi", "conform", "--rules", "hh", "--output", "c"]
         out = subprocess.PIPE
         run = subprocess.Popen(words, stdin=out, stdout=out, stderr=out, cwd=self.at, env=environment)
@@ -224,18 +299,18 @@ class Whole(Folder):
         run.stdin.flush()
         while not any(it.name.startswith(".c.") for it in self.at.iterdir()):
             time.sleep(0.01)
-        self.assertEqual((self.at / "c").read_text(), "old")
+        self.assertEqual((self.at / "c").read_text(encoding="utf-8"), "old")
         run.send_signal(signal.SIGINT)
         run.communicate()
         self.assertEqual(run.returncode, 130)
-        self.assertTrue((self.at / "c").read_text().startswith("matching hh 2\n1 link 1 2 = ok\n"))
+        self.assertTrue((self.at / "c").read_text(encoding="utf-8").startswith("matching hh 2\n1 link 1 2 = ok\n"))
         self.assertEqual([name for name in self.held() if name.startswith(".")], [])
 
     def test_of_the_package(self) -> None:
         with Network("hh", 2) as net:
             net.save("/dev/null")
             net.save(self.at / "t")
-        self.assertEqual((self.at / "t").read_text(), "matching hh 2\n")
+        self.assertEqual((self.at / "t").read_text(encoding="utf-8"), "matching hh 2\n")
         self.assertTrue(files.is_descriptor("/dev/stderr") and files.is_descriptor("/proc/self/fd/1"))
         self.assertFalse(files.is_descriptor(str(self.at / "t")) or files.is_descriptor("/dev/null"))
 

@@ -123,7 +123,7 @@ class Parts(Timed):
     def test_of_files_and_in_processes(self) -> None:
         text = transcript(2)
         path = pathlib.Path(self.folder(), "transcript")
-        path.write_text(text)
+        path.write_text(text, encoding="utf-8")
         self.assertEqual(audit_parts(path, size=500), audit(text))
         self.assertEqual(audit(Slice(str(path), 0, len(text))), audit(text))
         self.assertEqual(verdict(audit, Slice(str(path), 5, len(text))), verdict(audit, text[5:]))
@@ -136,7 +136,7 @@ class Parts(Timed):
             with self.assertRaises(Damaged):
                 audit_parts(text[:-1], executor, size=500)
         for wrong in ("", "x", "matching2 hh 3\nbase 0 spent=0 nodes=1 edges=0\n"):
-            path.write_text(wrong)
+            path.write_text(wrong, encoding="utf-8")
             self.assertEqual(verdict(audit_parts, path), verdict(audit, wrong.encode()))
             self.assertEqual(verdict(audit_parts, wrong.encode()), verdict(audit, wrong.encode()))
         self.assertRaises(FileNotFoundError, audit_parts, pathlib.Path("/no/such/transcript"))

@@ -37,7 +37,7 @@ registers = "pointer"
 def rudekpi(*words: str, folder: Optional[str] = None) -> subprocess.CompletedProcess[str]:
     paths = dict(os.environ, PYTHONPATH=os.path.join(TOP, "python"))
     return subprocess.run(
-        [sys.executable, "-m", "rudekpi", *words], env=paths, capture_output=True, text=True, cwd=folder
+        [sys.executable, "-m", "rudekpi", *words], env=paths, capture_output=True, encoding="utf-8", cwd=folder
     )
 
 
@@ -76,14 +76,14 @@ class Plans(Timed):
 
     def test_files(self) -> None:
         path = os.path.join(self.folder(), "plan.toml")
-        pathlib.Path(path).write_text(TOML)
+        pathlib.Path(path).write_text(TOML, encoding="utf-8")
         if sys.version_info >= (3, 11):
             self.assertEqual(read_plan(path).disturbances, (Disturbance(3, "pointer"),))
         with mock.patch.dict(sys.modules, tomllib=None):
             self.assertRaisesRegex(ValueError, "needs Python 3.11", read_plan, path)
         path = os.path.join(self.folder(), "plan.json")
         for text in ("{", "\x00"):
-            pathlib.Path(path).write_text(text)
+            pathlib.Path(path).write_text(text, encoding="utf-8")
             self.assertRaisesRegex(ValueError, "plan.json: ", read_plan, path)
 
     def test_disturbances_of_rows(self) -> None:
@@ -112,15 +112,15 @@ class Again(Timed):
 
     def test_commands(self) -> None:
         folder = self.folder()
-        pathlib.Path(folder, "plan.json").write_text(json.dumps({**MADE, "seeds": 1}))
+        pathlib.Path(folder, "plan.json").write_text(json.dumps({**MADE, "seeds": 1}), encoding="utf-8")
         done = rudekpi("sweep", "plan.json", "--csv", "rows.csv", "--processes", "1", folder=folder)
         self.assertEqual((done.returncode, done.stdout, done.stderr), (0, "", ""))
-        with open(os.path.join(folder, "rows.csv"), newline="") as file:
+        with open(os.path.join(folder, "rows.csv"), newline="", encoding="utf-8") as file:
             rows = sweeps.read_csv(file)
         self.assertEqual(len(rows), 24)
         done = rudekpi("again", "rows.csv", "7", "--output", "run.transcript", folder=folder)
         self.assertEqual((done.returncode, done.stdout, done.stderr), (0, "", ""))
-        said = pathlib.Path(folder, "run.transcript").read_text()
+        said = pathlib.Path(folder, "run.transcript").read_text(encoding="utf-8")
         self.assertEqual(said, play_again(rows[6]).transcript)
         self.assertEqual(rudekpi("again", "rows.csv", "7", folder=folder).stdout, said)
         for words, status, why in (
@@ -157,9 +157,9 @@ class Again(Timed):
         self.assertEqual(path.read_bytes(), before, "nothing is left to play")
         done = rudekpi(*words[:-3], "--resume", folder=folder)
         self.assertEqual((done.returncode, done.stderr), (2, "! --resume needs a file of rows: --csv FILE\n"))
-        path.write_text("a,b\n1,2\n")
+        path.write_text("a,b\n1,2\n", encoding="utf-8")
         done = rudekpi(*words, folder=folder)
-        self.assertEqual((done.returncode, path.read_text()), (2, "a,b\n1,2\n"))
+        self.assertEqual((done.returncode, path.read_text(encoding="utf-8")), (2, "a,b\n1,2\n"))
         self.assertIn("! rows.csv has not the columns", done.stderr)
 
 

@@ -147,7 +147,7 @@ class Panels(Timed):
         self.assertEqual(os.listdir(os.path.dirname(path)), [])
         plots.check(path, 60)
         plots.of_rows(many[:6], path)
-        self.assertIn("<svg", pathlib.Path(path).read_text())
+        self.assertIn("<svg", pathlib.Path(path).read_text(encoding="utf-8"))
 
     def test_titles_are_shown_as_they_are(self) -> None:
         long = "/a/folder/with/$x^{$/and/a/long/name/of/its/own/net.txt"

@@ -213,7 +213,7 @@ for program in programs:
         ]
         words = [sys.executable, "-X", "dev", "-W", "error::ResourceWarning", "-c", uses % programs]
         done = subprocess.run(
-            words, env=dict(os.environ, PYTHONPATH=os.path.join(TOP, "python")), capture_output=True, text=True
+            words, env=dict(os.environ, PYTHONPATH=os.path.join(TOP, "python")), capture_output=True, encoding="utf-8"
         )
         kinds = "Refused Ended Ended Garbled Garbled FileNotFoundError".split(" ")
         self.assertEqual((done.stdout.split(), done.stderr), (kinds, ""))
@@ -294,7 +294,9 @@ class Found(Timed):
         uses = "import rudekpi\nfor _ in range(2):\n    with rudekpi.Network('hh', 3) as net: print(net.nodes)\n"
         environment = {name: value for name, value in os.environ.items() if name != "RUDEKPI_CONSOLE"}
         environment["PYTHONPATH"] = os.path.join(folder, "python")
-        return subprocess.run([sys.executable, "-c", uses], env=environment, cwd="/", capture_output=True, text=True)
+        return subprocess.run(
+            [sys.executable, "-c", uses], env=environment, cwd="/", capture_output=True, encoding="utf-8"
+        )
 
     def test_in_the_repository_of_the_module(self) -> None:
         builds = 'if [ "$1" = --version ]; then echo building 1 of 1: console >&2; exit 0; fi\n'

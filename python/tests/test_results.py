@@ -272,8 +272,8 @@ class Questions(Timed):
         with Network("hh", 2) as net:
             net.link(1, 2)
             net.play(path)
-            self.assertIn(json.dumps(net.transcript()), path.read_text())
-        self.assertIn("<html", path.read_text().lower())
+            self.assertIn(json.dumps(net.transcript()), path.read_text(encoding="utf-8"))
+        self.assertIn("<html", path.read_text(encoding="utf-8").lower())
 
 
 class Keeping(Timed):
@@ -329,7 +329,7 @@ class Keeping(Timed):
 class Storms(Timed):
     def test_scripts_of_all_kinds(self) -> None:
         path = pathlib.Path(self.folder(), "script")
-        path.write_text("link 3 4\n")
+        path.write_text("link 3 4\n", encoding="utf-8")
         said = storm(
             ["link 1 2\ndrive 7 100\n", ["link 2 3", "scramble 5 20"], path],
             "manne",

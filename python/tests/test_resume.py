@@ -350,7 +350,7 @@ class Names(Timed):
     def test_that_do_not_fit(self) -> None:
         folder = self.folder()
         path = os.path.join(folder, "t")
-        with open(path, "w") as file:
+        with open(path, "w", encoding="utf-8") as file:
             file.write(TEXT)
         before = children()
         for given in each(TEXT.encode(), path):
@@ -417,7 +417,7 @@ class Wrong(Timed):
             Network.resume("/proc/self/mem")
         if os.getuid():
             path = os.path.join(folder, "closed")
-            open(path, "w").close()
+            open(path, "w", encoding="utf-8").close()
             os.chmod(path, 0)
             with self.assertRaises(PermissionError):
                 Network.resume(path)
@@ -431,7 +431,7 @@ class Wrong(Timed):
 
     def test_an_interrupt_leaves_nothing(self) -> None:
         path = os.path.join(self.folder(), "t")
-        with open(path, "w") as file:
+        with open(path, "w", encoding="utf-8") as file:
             file.write(TEXT)
         gc.collect()
         before = children(), open_files()
@@ -470,7 +470,7 @@ for sign in {BASE!r}:
 sys.stdin.read()
 """
         path = os.path.join(self.folder(), "t")
-        with open(path, "w") as file:
+        with open(path, "w", encoding="utf-8") as file:
             file.write(TEXT)
         program = self.program(script)
         for given in each(path, TEXT.encode(), io.BytesIO(TEXT.encode())):
@@ -559,7 +559,7 @@ class Memory(Timed):
             SHORT_OF_MEMORY,
             os.path.join(self.folder(), "t"),
         ]
-        done = subprocess.run(words, env=environment, capture_output=True, text=True)
+        done = subprocess.run(words, env=environment, capture_output=True, encoding="utf-8")
         self.assertEqual((done.returncode, done.stderr), (0, ""), done.stdout)
         self.assertEqual(done.stdout, "['nothing', 'went on']\n" * 2)
 
@@ -576,14 +576,16 @@ class Bases(Timed):
         path = os.path.join(self.folder(), "base")
         with self.net() as net:
             first = net.checkpoint(path)
-            self.assertEqual(pathlib.Path(path).read_text(), BASE)
+            self.assertEqual(pathlib.Path(path).read_text(encoding="utf-8"), BASE)
             self.assertEqual((first.number, first.edges), (6, (("ann", "bob"),)))
             self.assertEqual(net.transcript(), BASE * 2)
             net.link("ann", "dan")
             # over the older one, by a path of the other kind
             second = net.checkpoint(pathlib.Path(path))
             self.assertEqual((second.number, second.spent), (7, 0))
-            self.assertTrue(net.transcript().endswith("7 link 1 4 = ok\n" + pathlib.Path(path).read_text()))
+            self.assertTrue(
+                net.transcript().endswith("7 link 1 4 = ok\n" + pathlib.Path(path).read_text(encoding="utf-8"))
+            )
         with Network.resume(path, nodes=ANN) as again:
             self.assertEqual(again.checkpoint(), second)
             self.assertEqual(again.show("ann").entry, 8)
@@ -594,24 +596,24 @@ class Bases(Timed):
         with Network("hh", 2, keep=False) as net:
             net.link(1, 2)
             net.checkpoint(path)
-            self.assertEqual(net.transcript(), pathlib.Path(path).read_text())
+            self.assertEqual(net.transcript(), pathlib.Path(path).read_text(encoding="utf-8"))
 
     def test_links_and_modes(self) -> None:
         folder = self.folder()
         path, link = os.path.join(folder, "base"), os.path.join(folder, "link")
-        pathlib.Path(path).write_text("as it was")
+        pathlib.Path(path).write_text("as it was", encoding="utf-8")
         os.chmod(path, 0o640)
         os.symlink("base", link)
         with self.net() as net:
             net.checkpoint(link)
         self.assertTrue(os.path.islink(link))
         self.assertEqual(stat.S_IMODE(os.stat(path).st_mode), 0o640)
-        self.assertEqual(pathlib.Path(path).read_text(), BASE)
+        self.assertEqual(pathlib.Path(path).read_text(encoding="utf-8"), BASE)
 
     def test_that_can_not_be_written(self) -> None:
         folder = self.folder()
         before, after = os.path.join(folder, "before"), os.path.join(folder, "after")
-        pathlib.Path(before).write_text("as it was")
+        pathlib.Path(before).write_text("as it was", encoding="utf-8")
         with Network("hh", 50) as net:
             soft, hard = resource.getrlimit(resource.RLIMIT_FSIZE)
             resource.setrlimit(resource.RLIMIT_FSIZE, (100, hard))
@@ -628,25 +630,25 @@ class Bases(Timed):
             finally:
                 resource.setrlimit(resource.RLIMIT_FSIZE, (soft, hard))
             self.assertEqual(os.listdir(folder), ["before"])
-            self.assertEqual(pathlib.Path(before).read_text(), "as it was")
+            self.assertEqual(pathlib.Path(before).read_text(encoding="utf-8"), "as it was")
             # the network has its bases and goes on
             self.assertEqual(net.link(1, 2).entry, 1)
             self.assertEqual(net.transcript().count("base 0 "), 5)
             self.assertEqual(net.audit().entries, 1)
             net.checkpoint(before)
-            self.assertIn("base 1 ", pathlib.Path(before).read_text())
+            self.assertIn("base 1 ", pathlib.Path(before).read_text(encoding="utf-8"))
 
     def test_a_folder_that_takes_no_new_file(self) -> None:
         if not os.getuid():
             self.skipTest("root may write everywhere")
         folder = self.folder()
         path = os.path.join(folder, "base")
-        pathlib.Path(path).write_text("as it was")
+        pathlib.Path(path).write_text("as it was", encoding="utf-8")
         os.chmod(folder, 0o500)
         self.addCleanup(os.chmod, folder, 0o700)
         with self.net() as net, self.assertRaises(PermissionError):
             net.checkpoint(path)
-        self.assertEqual(pathlib.Path(path).read_text(), "as it was")
+        self.assertEqual(pathlib.Path(path).read_text(encoding="utf-8"), "as it was")
 
     def test_they_are_on_the_disk_before_they_have_their_name(self) -> None:
         path = os.path.join(self.folder(), "base")
@@ -674,10 +676,10 @@ class Bases(Timed):
             cut = [0, 0]
             for number in range(0, 1_000_000, 17):
                 net.show(1)
-                before, after = pathlib.Path(path).read_text(), net.checkpoint().number
+                before, after = pathlib.Path(path).read_text(encoding="utf-8"), net.checkpoint().number
                 with At(number) as at:
                     net.checkpoint(path)
-                found = pathlib.Path(path).read_text()
+                found = pathlib.Path(path).read_text(encoding="utf-8")
                 is_new = found != before
                 cut[is_new] += 1
                 with self.subTest(instruction=number):
@@ -704,7 +706,7 @@ class Bases(Timed):
                     base = net.checkpoint(path)
                 with self.subTest(instruction=number):
                     self.assertLessEqual(set(os.listdir(folder)), {"base", "other"})
-                    self.assertIn(f"base {base.number} ", pathlib.Path(path).read_text())
+                    self.assertIn(f"base {base.number} ", pathlib.Path(path).read_text(encoding="utf-8"))
                 if at.left >= 0:
                     break
             self.assertGreater(number, 100)

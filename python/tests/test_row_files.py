@@ -142,12 +142,12 @@ class Sweeps(Timed):
     def setUp(self) -> None:
         super().setUp()
         self.at = pathlib.Path(self.folder())
-        (self.at / "g.txt").write_text("1 2\n2 3\n3 4\n")
+        (self.at / "g.txt").write_text("1 2\n2 3\n3 4\n", encoding="utf-8")
 
     def run_in(self, words: str, **more: str) -> subprocess.CompletedProcess[str]:
         environment = dict(os.environ, PYTHONPATH=os.path.join(TOP, "python"), **more)
         command = [sys.executable, "-m", "rudekpi", *words.split(" ")]
-        return subprocess.run(command, cwd=self.at, env=environment, capture_output=True, text=True)
+        return subprocess.run(command, cwd=self.at, env=environment, capture_output=True, encoding="utf-8")
 
     def done(self, words: str) -> str:
         done = self.run_in(words)
@@ -163,7 +163,7 @@ class Sweeps(Timed):
         self.assertEqual({it.name: it.read_bytes() for it in self.at.iterdir()}, before)
 
     def rows(self, name: str = "rows.csv") -> list[list[str]]:
-        with open(self.at / name, newline="") as file:
+        with open(self.at / name, newline="", encoding="utf-8") as file:
             return list(csv.reader(file))
 
     def test_two_sweeps_are_the_same_but_for_the_seconds(self) -> None:
@@ -229,7 +229,7 @@ class Sweeps(Timed):
         self.done(words)
         digest = graphs.read(self.at / "g.txt").digest
         self.assertEqual({line[-1] for line in self.rows()[1:] if line[0] == "g.txt"}, {digest})
-        (self.at / "g.txt").write_text("1 2\n2 3\n3 4\n4 1\n")
+        (self.at / "g.txt").write_text("1 2\n2 3\n3 4\n4 1\n", encoding="utf-8")
         now = graphs.read(self.at / "g.txt").digest
         why = f"rows.csv: line 2: the row is of another graph g.txt, with the digest {digest} and not {now}\n"
         self.refused(f"{words} --resume", why)
@@ -243,7 +243,7 @@ class Sweeps(Timed):
         [made] = sweep([graphs.ring(12)], ["manne"], ["least"], [4], [sweeps.Disturbance(9, any_value=True)])
         old = replace(made, disturbance="9 faults", changes=None, digest="")
         (self.at / "rows.csv").write_bytes(text_of([old], EARLIER).encode())
-        with open(self.at / "rows.csv", newline="") as file:
+        with open(self.at / "rows.csv", newline="", encoding="utf-8") as file:
             self.assertEqual(read_csv(file), [old])
         self.assertEqual(self.done("again rows.csv 1"), play_again(old).transcript)
         self.assertEqual(play_again(old).moves, made.moves)
@@ -266,7 +266,7 @@ class Sweeps(Timed):
         self.refused("sweep rows", "the rows of rows are there: --plot draws them, and `compare rows` prints a table\n")
         if has_matplotlib:
             self.assertEqual(self.run_in("sweep rows --plot a.svg", **without).returncode, 0)
-            self.assertIn("<svg", (self.at / "a.svg").read_text())
+            self.assertIn("<svg", (self.at / "a.svg").read_text(encoding="utf-8"))
             self.refused("compare rows --plot rows", "rows would be written over rows, which is read\n")
 
     @unittest.skipUnless(has_networkx, "no networkx")

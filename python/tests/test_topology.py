@@ -25,7 +25,7 @@ DISK = graphs.unit_disk(25, 0.3, 2)
 
 def rudekpi(*words: str) -> subprocess.CompletedProcess[str]:
     paths = dict(os.environ, PYTHONPATH=os.path.join(TOP, "python"))
-    return subprocess.run([sys.executable, "-m", "rudekpi", *words], env=paths, capture_output=True, text=True)
+    return subprocess.run([sys.executable, "-m", "rudekpi", *words], env=paths, capture_output=True, encoding="utf-8")
 
 
 class Stood:

@@ -30,7 +30,7 @@ REPLIES = ["ok", "refused 11 not-enabled", "refused 12 bad-target", "refused 3 a
 
 def samples() -> list[str]:
     """Examples of few nodes, and runs with bases."""
-    found = [path.read_text() for path in sorted(EXAMPLES.glob("*.transcript"))]
+    found = [path.read_text(encoding="utf-8") for path in sorted(EXAMPLES.glob("*.transcript"))]
     for rules in ("hh", "manne"):
         with Network(rules, 6, present=5) as net:
             for a, b in ((1, 2), (2, 3), (3, 4), (4, 1)):

@@ -30,7 +30,7 @@ class Nodes:
         self.near = {a: sorted({b for link in links if a in link for b in link} - {a}) for a in range(1, NODES + 1)}
         self.edges, self.starts = len(links), 0
         lines = [{"nodes": list(self.near)}, *({"link": link} for link in links)]
-        (folder / "log").write_text("".join(json.dumps(line) + "\n" for line in lines))
+        (folder / "log").write_text("".join(json.dumps(line) + "\n" for line in lines), encoding="utf-8")
         self.processes: dict[int, subprocess.Popen[bytes]] = {}
 
     def __enter__(self) -> Nodes:
@@ -57,7 +57,7 @@ class Nodes:
         """The status and the words of the client's judge on the log so far."""
         more = {"PYTHONPATH": str(TOP / "python"), "RUDEKPI_LIBRARY": str(self.library / "librudekpi.so")}
         words = [sys.executable, "-m", "rudekpi", "conform", "--rules", "manne", str(self.folder / "log")]
-        done = subprocess.run(words, env={**os.environ, **more}, capture_output=True, text=True)
+        done = subprocess.run(words, env={**os.environ, **more}, capture_output=True, encoding="utf-8")
         return done.returncode, done.stdout + done.stderr
 
     def has_settled(self, seconds: float) -> bool:

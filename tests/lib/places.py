@@ -50,7 +50,7 @@ def library_in(folder: Union[str, os.PathLike[str]]) -> pathlib.Path:
 def is_as_released() -> bool:
     """Whether release/ was made from the sources."""
     try:
-        digest = subprocess.run([TOP / "scripts" / "digest"], capture_output=True, text=True, check=True).stdout
+        digest = subprocess.run([TOP / "scripts" / "digest"], capture_output=True, encoding="utf-8", check=True).stdout
         told = (RELEASE / "MADE_FROM").read_text(encoding="ascii").splitlines()
     except (OSError, subprocess.CalledProcessError):
         return False

@@ -93,7 +93,7 @@ def run_suite(words: Iterable[str], seconds: float) -> Result:
             stdout=subprocess.PIPE,
             stderr=subprocess.STDOUT,
             timeout=seconds,
-            text=True,
+            encoding="utf-8",
             errors="replace",
         )
         result = judged(ran.stdout, ran.returncode)
