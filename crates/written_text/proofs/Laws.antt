@@ -22,10 +22,10 @@ use Rattle.written_text.proofs.Growth.{base_added, size_same}
 use Rattle.written_text.proofs.Lines.{reached}
 
 -- the counts of a log
-abbrev summary_of : List Entry → Summary
+abbrev pub summary_of : List Entry → Summary
 summary_of log = record { entries = length log; epochs = epoch_count log; moves = move_count log }
 
-accepted : (bytes : List ℕ) (rules : RuleSet) (o : Opening) (log : List LogPart) (end : NumberedMoment) → IsTranscript bytes rules o log end → IsAccepted bytes (summary_of (entries_in log))
+pub accepted : (bytes : List ℕ) (rules : RuleSet) (o : Opening) (log : List LogPart) (end : NumberedMoment) → IsTranscript bytes rules o log end → IsAccepted bytes (summary_of (entries_in log))
 accepted bytes rules o log end is = record {
   rules = rules;
   opening = o;
@@ -41,7 +41,7 @@ counted bytes rules o log end is = (passes_run (table_of rules) is.start end log
 
 -- ---- a run from the beginning
 
-first_written : (rules : RuleSet) (nodes present : ℕ) → nodes ≤ 65535 → present ≤ nodes → IsWrittenBehind [] (Named nodes present) (first_progress rules nodes present)
+pub first_written : (rules : RuleSet) (nodes present : ℕ) → nodes ≤ 65535 → present ≤ nodes → IsWrittenBehind [] (Named nodes present) (first_progress rules nodes present)
 first_written rules nodes present few within = (
   [],
   record {
@@ -71,14 +71,14 @@ module _ (first : List ℕ) (from : TranscriptEnd) (is : IsTranscriptEnd first f
   at_end = is.transcript
 
   -- behind the first text
-  joined_start : IsWrittenBehind first is.opening (start_behind from)
+  pub joined_start : IsWrittenBehind first is.opening (start_behind from)
   joined_start = (_, base_added first from.rules is.opening is.log (end_moment from) at_end)
 
   -- alone
-  abbrev own_base : Opening
+  abbrev pub own_base : Opening
   own_base = Based (size_of is.opening) (base_of from.number (end_moment from).moment)
 
-  own_start : IsWrittenBehind [] own_base (start_behind from)
+  pub own_start : IsWrittenBehind [] own_base (start_behind from)
   own_start = (
     [],
     record {

@@ -5,5 +5,6 @@ mod Growth
 mod Lines
 mod Laws
 mod KeptLogs
+mod Sessions
 pub mod Outcomes
 pub mod Storms

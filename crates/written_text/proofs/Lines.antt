@@ -1,5 +1,5 @@
 -- Lines of a script keep what is written a transcript.
-use Rattle.std.proofs.Common.{◌≡◌, ℕ, zero, suc, ◌+◌, ◌<◌, ◌≤◌, inl, inr, List, [], ◌∷◌, ◌++◌, Option, None, Some, IfSome, sym, ap, subst, ◌∙◌, append_assoc, arith}
+use Rattle.std.proofs.Common.{◌≡◌, ℕ, zero, suc, ◌+◌, ◌<◌, ◌≤◌, inl, inr, List, [], ◌∷◌, ◌++◌, Option, None, Some, IfSome, Result, Ok, Err, sym, ap, subst, ◌∙◌, append_assoc, arith}
 use Rattle.rand_core.specs.Stream.{Stream}
 use Rattle.rule_machine.specs.declared.event.Event.{Event}
 use Rattle.rule_machine.specs.declared.rules.RuleSet.{RuleSet}
@@ -15,6 +15,11 @@ use Rattle.script_text.specs.declared.command.Command.{Command}
 use Rattle.script_text.specs.declared.command.Command.TheVariants.{Tell, Drive, Scramble, Checkpoint}
 use Rattle.script_text.specs.Command.{IsCommand}
 use Rattle.script_text.specs.Script.{Progress, AppendsEntry, CommandDoes, CommandFills, LineDoes, LinesDo, TurnDoes, TurnFills, TurnsDo, TurnsFill, with_checkpoint}
+use Rattle.step_log.specs.declared.fault.RecordFault.{RecordFault}
+use Rattle.step_log.specs.declared.fault.RecordFault.TheVariants.{LogFull, Memory}
+use Rattle.run_session.specs.declared.line_error.LineError.{LineError}
+use Rattle.run_session.specs.declared.line_error.LineError.TheVariants.{BadLine, Record}
+use Rattle.run_session.specs.Line.{TurnsBegin, CommandBegins, CommandEnds, LineEnds}
 use Rattle.seeded_turns.specs.DrawnEvents.{Draws, drawn_fault, drawn_step, seeded_stream}
 use Rattle.auditor.specs.Parts.{Opening}
 use Rattle.auditor.specs.Transcript.{IsTranscript}
@@ -105,6 +110,31 @@ module _ (first : List ℕ) (o : Opening) (rules : RuleSet) (limit : ℕ) (few :
   one_line : (line : List ℕ) (before after : Progress) → LineDoes (table_of rules) limit line before after → Well before → Well after
   one_line [] before after does well = stays before after does well
   one_line (b ∷ line) before after (c, says, does) well = command c before after says.0 does well
+
+  -- ---- however a line or a command ends
+
+  turns_begun : (draws : Draws) → DrawEvents draws (table_of rules) → (n : ℕ) (stream : Stream) (before after : Progress) → TurnsBegin draws (table_of rules) limit n stream before after → Well before → Well after
+  turns_begun draws events n stream before after (taken, within, does) well = turns draws events taken stream before after does well
+
+  begun : (c : Command) (before after : Progress) → CommandBegins (table_of rules) limit c before after → Well before → Well after
+  begun (Tell event) before after does well = stays before after does well
+  begun (Drive n) before after does well =
+      turns_begun drawn_step (steps_are_events (table_of rules)) n.count (seeded_stream n.seed) before after does well
+  begun (Scramble n) before after does well =
+      turns_begun drawn_fault (faults_are_events (table_of rules)) n.count (seeded_stream n.seed) before after does well
+  begun Checkpoint before after does well = stays before after does well
+
+  pub command_ended : (c : Command) (before after : Progress) (result : Result Unit RecordFault) → IsCommand c → CommandEnds (table_of rules) limit c before after result → Well before → Well after
+  command_ended c before after (Ok done) fits does well = command c before after fits does well
+  command_ended c before after (Err LogFull) fits does well = filled c before after does well
+  command_ended c before after (Err Memory) fits does well = begun c before after does well
+
+  pub line_ended : (number : ℕ) (line : List ℕ) (before after : Progress) (result : Result Unit LineError) → LineEnds (table_of rules) limit number line before after result → Well before → Well after
+  line_ended number line before after (Ok done) does well = one_line line before after does well
+  line_ended number line before after (Err (BadLine n)) does well = stays before after does.2 well
+  line_ended number line before after (Err (Record LogFull)) (c, says, fills) well = filled c before after fills well
+  line_ended number line before after (Err (Record Memory)) (inl same) well = stays before after same well
+  line_ended number line before after (Err (Record Memory)) (inr (c, says, begins)) well = begun c before after begins well
 
   all_lines : (lines : List (List ℕ)) (before after : Progress) → LinesDo (table_of rules) limit lines before after → Well before → Well after
   all_lines [] before after does well = stays before after does well

@@ -22,6 +22,10 @@ moment_of p = record { moment = p.moment; count = p.count }
 abbrev pub IsWrittenBehind : List ℕ → Opening → Progress → Type 0
 IsWrittenBehind first opening p = (log : List LogPart) × IsTranscript (first ++ p.text) p.rules opening log (moment_of p)
 
+-- the progress after its text was taken
+abbrev pub without_text : Progress → Progress
+without_text p = record p { text = [] }
+
 -- the lines lead to the end; or some lines lead to a line that meets a full log, and the run ends there
 abbrev pub LinesReachEnd : RuleTable → ℕ → List (List ℕ) → Progress → Progress → Type 0
 LinesReachEnd t limit lines start end =

@@ -1,29 +1,35 @@
 //! Laws of the texts that runs write: each function does nothing, and its contract is the law.
 
-ghost use Rattle.std.specs.Prelude.{◌≡◌, ◌≤◌, ◌+◌, ℕ, List, ◌++◌, length, Option, Result};
+ghost use Rattle.std.specs.Prelude.{◌≡◌, ◌≤◌, ◌+◌, ℕ, List, [], ◌++◌, length, Option, Result};
 ghost use Rattle.std.specs.Io.KnownBytes.{Appends};
 ghost use Rattle.byte_streams.specs.PartialOutput.{AppendsBeginning};
 ghost use Rattle.std.specs.List.{AllByRecursion};
+ghost use Rattle.rule_machine.specs.Base.{base_of};
 ghost use Rattle.rule_machine.specs.declared.rules.RuleSet.{RuleSet};
 ghost use Rattle.rule_machine.specs.Tables.{table_of, weight_of};
 ghost use Rattle.step_log.specs.RetainedLogs.{RetainedLog, IsRetainedRun};
 ghost use Rattle.auditor.specs.declared.end.TranscriptEnd.{TranscriptEnd};
 ghost use Rattle.auditor.specs.declared.summary.Summary.{Summary};
 ghost use Rattle.auditor.specs.AcceptedRuns.{IsAccepted};
-ghost use Rattle.auditor.specs.Parts.{Opening};
+ghost use Rattle.auditor.specs.Parts.{Based, Named, Opening, size_of};
 ghost use Rattle.auditor.specs.Transcript.{IsEntryValue};
-ghost use Rattle.auditor.specs.TranscriptEnds.{IsTranscriptEnd};
+ghost use Rattle.auditor.specs.TranscriptEnds.{IsTranscriptEnd, end_moment};
+ghost use Rattle.run_session.specs.Line.{CommandEnds, LineEnds};
 ghost use Rattle.run_session.specs.RunStart.{first_progress};
+ghost use Rattle.run_session.specs.declared.line_error.LineError.{LineError};
 ghost use Rattle.script_run.specs.declared.fault.RunFault.{RunFault};
 ghost use Rattle.script_run.specs.Outcome.{EndsFrom, IsRunOutcome};
 ghost use Rattle.script_run.specs.Restarts.{RestartView};
 ghost use Rattle.script_run.specs.RunOptions.{OptionsView};
+ghost use Rattle.script_text.specs.Command.{IsCommand};
 ghost use Rattle.script_text.specs.Script.{Progress};
+ghost use Rattle.script_text.specs.declared.command.Command.{Command};
+ghost use Rattle.step_log.specs.declared.fault.RecordFault.{RecordFault};
 ghost use Rattle.storm_runner.specs.declared.fault.StormFault.{StormFault};
 ghost use Rattle.storm_runner.specs.Outcome.{IsResumedStorm, IsStormOutcome};
 ghost use Rattle.written_text.specs.StormTexts.{WritesAccepted};
 ghost use Rattle.audit_parts.specs.Laws.{IsAcceptedText};
-ghost use Rattle.written_text.specs.Written.{EndsAccepted, IsWrittenBehind, LinesReachEnd, log_text, start_behind};
+ghost use Rattle.written_text.specs.Written.{EndsAccepted, IsWrittenBehind, LinesReachEnd, log_text, start_behind, without_text};
 
 /// What lines append to a transcript is a transcript again.
 ///
@@ -31,6 +37,28 @@ ghost use Rattle.written_text.specs.Written.{EndsAccepted, IsWrittenBehind, Line
 pub fn runs_stay_transcripts()
     ensures { (first : List ℕ) (opening : Opening) (rules : RuleSet) (limit : ℕ) (lines : List (List ℕ)) (start end : Progress)
         → limit ≤ 16777216 → start.rules ≡ rules → IsWrittenBehind first opening start → LinesReachEnd (table_of rules) limit lines start end → IsWrittenBehind first opening end }
+{}
+
+/// Each call of a session keeps what it has written a transcript: a header or a base, and all since.
+///
+/// `first` is what was taken of the session's text. `line` is for what `Run::carry_out` ensures, and
+/// `command` for a command that is carried out alone: each also if the log is full, or memory runs out.
+/// Whenever it is read, `first` with the text that was not taken is accepted.
+pub fn sessions_stay_transcripts()
+    ensures begins { (rules : RuleSet) (nodes present : ℕ)
+        → nodes ≤ 65535 → present ≤ nodes → IsWrittenBehind [] (Named nodes present) (first_progress rules nodes present) }
+    ensures resumes { (first : List ℕ) (from : TranscriptEnd) (is : IsTranscriptEnd first from)
+        → IsWrittenBehind first is.opening (start_behind from) }
+    ensures alone { (first : List ℕ) (from : TranscriptEnd) (is : IsTranscriptEnd first from)
+        → IsWrittenBehind [] (Based (size_of is.opening) (base_of from.number (end_moment from).moment)) (start_behind from) }
+    ensures line { (first : List ℕ) (opening : Opening) (limit number : ℕ) (line : List ℕ) (before after : Progress) (result : Result Unit LineError)
+        → limit ≤ 16777216 → IsWrittenBehind first opening before → LineEnds (table_of before.rules) limit number line before after result → IsWrittenBehind first opening after }
+    ensures command { (first : List ℕ) (opening : Opening) (limit : ℕ) (command : Command) (before after : Progress) (result : Result Unit RecordFault)
+        → limit ≤ 16777216 → IsCommand command → IsWrittenBehind first opening before → CommandEnds (table_of before.rules) limit command before after result → IsWrittenBehind first opening after }
+    ensures taken { (first : List ℕ) (opening : Opening) (p : Progress)
+        → IsWrittenBehind first opening p → IsWrittenBehind (first ++ p.text) opening (without_text p) }
+    ensures accepted { (first : List ℕ) (opening : Opening) (p : Progress)
+        → IsWrittenBehind first opening p → (c : Summary) × IsAccepted (first ++ p.text) c }
 {}
 
 /// The auditor accepts the text of a run: the header, and what the lines append to it.

@@ -14,5 +14,5 @@ mod law;
 
 pub use law::{
     continued_runs_are_accepted, kept_logs_are_accepted, outcomes_are_accepted, runs_are_accepted,
-    runs_stay_transcripts, storms_are_accepted,
+    runs_stay_transcripts, sessions_stay_transcripts, storms_are_accepted,
 };
