@@ -7,10 +7,11 @@ use Rattle.auditor.specs.Damage.{IsDamage, line_feeds}
 use Rattle.auditor.specs.AcceptedRuns.{IsAccepted}
 use Rattle.auditor.specs.Verdict.{IsJudged}
 use Rattle.auditor.proofs.VerdictUniqueness.{judged_accepts, judged_names}
+use Rattle.audit_parts.specs.Continuations.{ContinuesRun}
 use Rattle.audit_parts.specs.FieldRanges.{AreLinesBefore, FitsFields}
 use Rattle.audit_parts.specs.Seams as seams
 use Rattle.rudekpi_c.specs.declared.judged.Verdict.{Verdict}
-use Rattle.rudekpi_c.specs.JoinCalls.{IsJoined, IsUnjoined, said_by}
+use Rattle.rudekpi_c.specs.JoinCalls.{CountsLines, IsJoined, IsUnjoined, said_by}
 use Rattle.rudekpi_c.specs.AuditVerdicts.{JudgedAs, accepted, damaged, unjudged, audit_verdict}
 use Rattle.rudekpi_c.proofs.AuditVerdicts.{judged_as}
 
@@ -32,7 +33,7 @@ found_as bytes v judged = by judged.says
     by (inr (inl (d, is, e))) = record { found = Err d; is = e; judged = damage_judged bytes d is }
     by (inr (inr e)) = record { found = Err Memory; is = e; judged = tt }
 
-lines_before : (lines : ℕ) (own : List ℕ) (old next : Verdict) (v w : seams.Verdict) → old ≡ audit_verdict v → next ≡ audit_verdict w → ((c : Summary) (d : AuditFault) → old ≡ accepted c → next ≡ damaged d → next ≢ unjudged → lines ≡ line_feeds own) → AreLinesBefore lines own v w
+lines_before : (lines : ℕ) (own : List ℕ) (old next : Verdict) (v w : seams.Verdict) → old ≡ audit_verdict v → next ≡ audit_verdict w → CountsLines lines own old next → AreLinesBefore lines own v w
 lines_before lines own old next (Ok c) (Ok d) e f before = tt
 lines_before lines own old next (Ok c) (Err Read) e f before = tt
 lines_before lines own old next (Ok c) (Err Memory) e f before = tt
@@ -80,18 +81,27 @@ joined_reads : (lines : ℕ) (old next : Verdict) (first second v w : seams.Verd
 joined_reads lines old next first second v w had also e f =
     ap (λ (z : seams.Verdict). seams.joined_verdict z lines second) (reads old first v had e) ∙ ap (λ (z : seams.Verdict). seams.joined_verdict (heard v) lines z) (reads next second w also f) ∙ sym (heard_joined v w lines)
 
+-- What two verdicts say of their texts, the joined verdict says of the whole: `own` is what the whole has
+-- before the second text.
+whole_judged : (lines : ℕ) (old next new : Verdict) (first second both : seams.Verdict) → first ≡ said_by old → second ≡ said_by next → new ≡ audit_verdict both → (former own latter : List ℕ)
+    → (AreLinesBefore lines own first second → IsJudged former first → IsJudged latter second → IsJudged (own ++ latter) both)
+    → CountsLines lines own old next → JudgedAs former old → JudgedAs latter next → JudgedAs (own ++ latter) new
+whole_judged lines old next new first second both had also told former own latter judged before x y =
+    let v = found_as former old x in
+    let w = found_as latter next y in
+    let same = reads old first v.found had v.is ∙ heard_judged former v.found v.judged in
+    let same' = reads next second w.found also w.is ∙ heard_judged latter w.found w.judged in
+    let lines_are = subst (λ (z : seams.Verdict). AreLinesBefore lines own z second) (sym same) (subst (AreLinesBefore lines own v.found) (sym same') (lines_before lines own old next v.found w.found v.is w.is before)) in
+    let whole = judged lines_are (subst (IsJudged former) (sym same) v.judged) (subst (IsJudged latter) (sym same') w.judged) in
+    judged_as (own ++ latter) both new told whole (judged_accepts (own ++ latter) both whole) (judged_names (own ++ latter) both whole)
+
 pub was_joined : (lines : ℕ) (old next new : Verdict) (first second both : seams.Verdict) → (old.kind ≤ 6) × (next.kind ≤ 6) → first ≡ said_by old → second ≡ said_by next → new ≡ audit_verdict both → both ≡ seams.joined_verdict first lines second
     → ((former latter : List ℕ) (m : seams.Meets former latter) → AreLinesBefore lines m.own first second → IsJudged former first → IsJudged latter second → IsJudged (m.own ++ latter) both)
+    → ((former latter : List ℕ) → ContinuesRun former latter → AreLinesBefore lines former first second → IsJudged former first → IsJudged latter second → IsJudged (former ++ latter) both)
     → IsJoined lines old next new
-was_joined lines old next new first second both known had also told is judged = record {
+was_joined lines old next new first second both known had also told is judged continued = record {
   known = known;
-  judged = λ former latter m before x y.
-      let v = found_as former old x in
-      let w = found_as latter next y in
-      let same = reads old first v.found had v.is ∙ heard_judged former v.found v.judged in
-      let same' = reads next second w.found also w.is ∙ heard_judged latter w.found w.judged in
-      let lines_are = subst (λ (z : seams.Verdict). AreLinesBefore lines m.own z second) (sym same) (subst (AreLinesBefore lines m.own v.found) (sym same') (lines_before lines m.own old next v.found w.found v.is w.is before)) in
-      let whole = judged former latter m lines_are (subst (IsJudged former) (sym same) v.judged) (subst (IsJudged latter) (sym same') w.judged) in
-      judged_as (m.own ++ latter) both new told whole (judged_accepts (m.own ++ latter) both whole) (judged_names (m.own ++ latter) both whole);
+  judged = λ former latter m. whole_judged lines old next new first second both had also told former m.own latter (judged former latter m);
+  continued = λ former latter goes_on. whole_judged lines old next new first second both had also told former former latter (continued former latter goes_on);
   is = λ v w e f. told ∙ ap audit_verdict (is ∙ joined_reads lines old next first second v w had also e f) ∙ heard_verdict (seams.joined_verdict v lines w);
 }

@@ -9,7 +9,7 @@ use Rattle.auditor.proofs.TranscriptEnds.{ends_judged}
 use Rattle.rudekpi_c.specs.declared.judged.Verdict.{Verdict}
 use Rattle.rudekpi_c.specs.declared.session.Session.{Session}
 use Rattle.rudekpi_c.specs.AuditCalls.{found_status}
-use Rattle.rudekpi_c.specs.AuditVerdicts.{JudgedAs, audit_verdict}
+use Rattle.rudekpi_c.specs.AuditVerdicts.{JudgedAs, accepted, damaged, audit_verdict}
 use Rattle.rudekpi_c.specs.Resumption.{ResumesSession}
 use Rattle.rudekpi_c.proofs.AuditVerdicts.{judged_as}
 
@@ -21,6 +21,10 @@ abbrev pub failed : AuditFault → Result Unit AuditFault
 failed fault = Err fault
 
 -- no session goes on from damaged bytes, or if memory runs out
-pub not_resumed : (bytes : List ℕ) (fault : AuditFault) (status : ℕ) (v : Verdict) (new : Option Session) → JudgedAs bytes v → EndsRun bytes (Err fault) → status ≡ found_status (failed fault) → new ≡ None → ResumesSession bytes status v new
-not_resumed bytes Memory status v new judged ended is none = (judged, inr (inr (is, none)))
-not_resumed bytes damage status v new judged ended is none = (judged, inr (inl (is, (damage, ended), none)))
+pub not_resumed : (bytes : List ℕ) (fault : AuditFault) (status : ℕ) (v : Verdict) (new : Option Session) → JudgedAs bytes v → v ≡ damaged fault → EndsRun bytes (Err fault) → status ≡ found_status (failed fault) → new ≡ None → ResumesSession bytes status v new
+not_resumed bytes Memory status v new judged told ended is none = (judged, inr (inr (is, inl told, none)))
+not_resumed bytes damage status v new judged told ended is none = (judged, inr (inl (is, (damage, ended, told), none)))
+
+-- no session goes on from bytes that are accepted, if memory runs out afterwards
+pub left_out : (bytes : List ℕ) (end : TranscriptEnd) (v : Verdict) (new : Option Session) → JudgedAs bytes v → v ≡ accepted end.summary → EndsRun bytes (Ok end) → new ≡ None → ResumesSession bytes 3 v new
+left_out bytes end v new judged told ended none = (judged, inr (inr (refl, inr (end.summary, ends_judged bytes (Ok end) ended, told), none)))

@@ -4,6 +4,7 @@ use Rattle.auditor.specs.declared.fault.AuditFault.{AuditFault}
 use Rattle.auditor.specs.declared.fault.AuditFault.TheVariants.{BadHeader, NotALine, OutOfOrder, NotTheMachines, BadBase, Memory}
 use Rattle.auditor.specs.declared.summary.Summary.{Summary}
 use Rattle.auditor.specs.Damage.{line_feeds}
+use Rattle.audit_parts.specs.Continuations.{ContinuesRun}
 use Rattle.audit_parts.specs.FieldRanges.{FitsFields}
 use Rattle.audit_parts.specs.Seams as seams
 use Rattle.rudekpi_c.specs.declared.judged.Verdict.{Verdict}
@@ -19,11 +20,16 @@ said_by v =
     else (if nat_eq v.kind 4 then Err (NotTheMachines v.line)
     else (if nat_eq v.kind 5 then Err (BadBase v.line) else Err Memory)))))
 
--- the new verdict is the joined one; if two texts meet and `lines` is right, it is that of the joined text
+-- if the first text is accepted and the next is damaged, `lines` is how many lines the text `own` has
+abbrev pub CountsLines : ℕ → List ℕ → Verdict → Verdict → Type 0
+CountsLines lines own old next = (c : Summary) (d : AuditFault) → old ≡ accepted c → next ≡ damaged d → next ≢ unjudged → lines ≡ line_feeds own
+
+-- The new verdict is the joined one. If `lines` is right, and the two texts meet or the second goes on where
+-- the run of the first ends, it is that of the joined text.
 pub record IsJoined (lines : ℕ) (old next new : Verdict) : Type 0 where
   pub known : (old.kind ≤ 6) × (next.kind ≤ 6)
-  pub judged : (former latter : List ℕ) (m : seams.Meets former latter) → ((c : Summary) (d : AuditFault) → old ≡ accepted c → next ≡ damaged d → next ≢ unjudged → lines ≡ line_feeds m.own)
-      → JudgedAs former old → JudgedAs latter next → JudgedAs (m.own ++ latter) new
+  pub judged : (former latter : List ℕ) (m : seams.Meets former latter) → CountsLines lines m.own old next → JudgedAs former old → JudgedAs latter next → JudgedAs (m.own ++ latter) new
+  pub continued : (former latter : List ℕ) → ContinuesRun former latter → CountsLines lines former old next → JudgedAs former old → JudgedAs latter next → JudgedAs (former ++ latter) new
   pub is : (first second : seams.Verdict) → old ≡ audit_verdict first → next ≡ audit_verdict second → new ≡ audit_verdict (seams.joined_verdict first lines second)
 
 -- a verdict's kind is invalid, or a number of the joined verdict does not fit its field

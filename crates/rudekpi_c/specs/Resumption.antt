@@ -4,9 +4,11 @@ use Rattle.rule_machine.specs.declared.reply.Reply.TheVariants.{Accepted}
 use Rattle.script_text.specs.Script.{Progress, with_checkpoint}
 use Rattle.auditor.specs.declared.end.TranscriptEnd.{TranscriptEnd}
 use Rattle.auditor.specs.declared.fault.AuditFault.{AuditFault}
+use Rattle.auditor.specs.declared.summary.Summary.{Summary}
+use Rattle.auditor.specs.AcceptedRuns.{IsAccepted}
 use Rattle.auditor.specs.Damage.{IsDamage}
 use Rattle.auditor.specs.TranscriptEnds.{IsTranscriptEnd, end_moment}
-use Rattle.rudekpi_c.specs.AuditVerdicts.{JudgedAs}
+use Rattle.rudekpi_c.specs.AuditVerdicts.{JudgedAs, accepted, damaged, unjudged}
 use Rattle.rudekpi_c.specs.Session.{stands, rules_of, limit_of}
 use Rattle.rudekpi_c.specs.declared.judged.Verdict.{Verdict}
 use Rattle.rudekpi_c.specs.declared.session.Session.{Session}
@@ -24,18 +26,21 @@ pub record GoesOnFrom (end : TranscriptEnd) (session : Session) : Type 0 where
   pub keeps_is : session.keeps ≡ true
   pub answer_is : session.answer.reply ≡ Accepted
 
--- C keeps a session that goes on from the end of the run whose transcript the bytes are
-pub record IsResumedSession (bytes : List ℕ) (new : Option Session) : Type 0 where
+-- C keeps a session that goes on from the end of the run whose transcript the bytes are, and the verdict has
+-- the transcript's counts
+pub record IsResumedSession (bytes : List ℕ) (verdict : Verdict) (new : Option Session) : Type 0 where
   pub session : Session
   pub is : new ≡ Some session
   pub end : TranscriptEnd
   pub ended : IsTranscriptEnd bytes end
+  pub counts : verdict ≡ accepted end.summary
   pub goes_on : GoesOnFrom end session
 
--- 0: the session goes on; 7: the bytes are damaged; 3: memory ran out; after 7 and 3 there is no session
+-- 0: the session goes on; 7: the verdict is the damage that the bytes have; 3: memory ran out, before the bytes
+-- were judged or after the verdict accepted them. After 7 and 3 there is no session.
 abbrev pub ResumesSession : List ℕ → ℕ → Verdict → Option Session → Type 0
 ResumesSession bytes status verdict new =
     JudgedAs bytes verdict
-    × (((status ≡ 0) × IsResumedSession bytes new)
-    ⊎ ((status ≡ 7) × ((d : AuditFault) × IsDamage bytes d) × (new ≡ None))
-    ⊎ ((status ≡ 3) × (new ≡ None)))
+    × (((status ≡ 0) × IsResumedSession bytes verdict new)
+    ⊎ ((status ≡ 7) × ((d : AuditFault) × IsDamage bytes d × (verdict ≡ damaged d)) × (new ≡ None))
+    ⊎ ((status ≡ 3) × ((verdict ≡ unjudged) ⊎ ((c : Summary) × IsAccepted bytes c × (verdict ≡ accepted c))) × (new ≡ None)))

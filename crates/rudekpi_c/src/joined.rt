@@ -38,9 +38,10 @@ fn found_in(verdict: Verdict) -> Option<Result<Summary, AuditFault>>
 
 /// Joins the verdict of a text with that of the next.
 ///
-/// The first text ends with the base that begins the second. `lines` is how many lines the first text has
-/// before that base. `lines` is used only if the first text is accepted and the second is damaged. Returns 5
-/// for an invalid kind, or for a sum that does not fit its field; the verdict is then unchanged.
+/// The first text ends with the base that begins the second, or lacks it: then the second text goes on where
+/// the run of the first ended. `lines` is how many lines the first text has before that base, or in all.
+/// `lines` is used only if the first text is accepted and the second is damaged. Returns 5 for an invalid
+/// kind, or for a sum that does not fit its field; the verdict is then unchanged.
 #[unsafe(no_mangle)]
 pub extern "C" fn rudekpi_audit_join(verdict: &mut Verdict, lines: u64, next: &Verdict) -> u32
     ensures { AuditJoined lines result verdict.old next.now verdict.new }

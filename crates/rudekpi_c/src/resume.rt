@@ -60,8 +60,8 @@ impl Session {
 /// Begins a session that goes on where the run of a transcript ended, in place of the slot's old session.
 ///
 /// `verdict` is that of `rudekpi_audit` on the bytes. The session's text begins with the base at the end of
-/// the run, and entries go on at the next number. Returns 7 if the bytes are damaged; 3 if memory runs out.
-/// After 7 or 3 the slot is empty.
+/// the run, and entries go on at the next number. Returns 7 if the bytes are damaged; 3 if memory runs out:
+/// the verdict is then of kind 6, or accepts the bytes. After 7 or 3 the slot is empty.
 #[unsafe(no_mangle)]
 pub extern "C" fn rudekpi_session_resume(
     alloc: Global,

@@ -1,21 +1,21 @@
-use Rattle.std.proofs.Common.{◌∙◌, Some, Ok, Err, inl, inr, refl, ap}
-use Rattle.rudekpi_c.proofs.Resumption.{end_judged, not_resumed}
+use Rattle.std.proofs.Common.{◌∙◌, Some, Ok, Err, inl, refl, ap}
+use Rattle.rudekpi_c.proofs.Resumption.{end_judged, left_out, not_resumed}
 use Rattle.rudekpi_c.proofs.resume.rudekpi_session_resume.Goals as goal
 
 pub returns-in-Err : goal.returns-in-Err
 returns-in-Err c =
     let found = c.in-Err.ensures in
-    not_resumed c.args.bytes.now c.in-Err.fault _ _ _ (end_judged c.args.bytes.now (Err c.in-Err.fault) _ c.told.ensures found.ended found.accepts_runs found.names_damage) found.ended c.status_of.ensures c.take.ensures.left
+    not_resumed c.args.bytes.now c.in-Err.fault _ _ _ (end_judged c.args.bytes.now (Err c.in-Err.fault) _ c.told.ensures found.ended found.accepts_runs found.names_damage) c.told.ensures found.ended c.status_of.ensures c.take.ensures.left
 
 pub returns-in_default : goal.returns-in_default
 returns-in_default c =
     let found = c.in-Ok.ensures in
-    (end_judged c.args.bytes.now (Ok c.in-Ok.end) _ c.told-2.ensures found.ended found.accepts_runs found.names_damage, inr (inr (refl, c.take.ensures.left)))
+    left_out c.args.bytes.now c.in-Ok.end _ _ (end_judged c.args.bytes.now (Ok c.in-Ok.end) _ c.told-2.ensures found.ended found.accepts_runs found.names_damage) c.told-2.ensures found.ended c.take.ensures.left
 
 pub returns-in_default-new : goal.returns-in_default-new
 returns-in_default-new c =
     let found = c.in-Ok.ensures in
-    (end_judged c.args.bytes.now (Ok c.in-Ok.end) _ c.told-2.ensures found.ended found.accepts_runs found.names_damage, inr (inr (refl, c.take.ensures.left)))
+    left_out c.args.bytes.now c.in-Ok.end _ _ (end_judged c.args.bytes.now (Ok c.in-Ok.end) _ c.told-2.ensures found.ended found.accepts_runs found.names_damage) c.told-2.ensures found.ended c.take.ensures.left
 
 pub returns : goal.returns
 returns c =
@@ -28,6 +28,7 @@ returns c =
           is = c.put.ensures ∙ ap (λ s. Some s) c.in-Ok-new.ensures.ok;
           end = c.in-Ok.end;
           ended = found.ended;
+          counts = c.told-2.ensures;
           goes_on = c.in-Ok-resume.ensures;
         },
       ),
