@@ -193,6 +193,15 @@ class GoingOn(Timed):
         with Network.resume(b"matching2 hh 0\nbase 0 spent=0 nodes=0 edges=0\n") as net:
             self.assertEqual((net.nodes, net.status().entry), ([], 1))
 
+    def test_at_the_greatest_number(self) -> None:
+        """The network goes on, and its first entry finds the log full: memory is not what it lacks."""
+        base = "matching2 hh 1\nbase 16777216 spent=0 nodes=1 edges=0\nnode 1 - 0\n"
+        with Network.resume(base.encode()) as net:
+            self.assertEqual((net.transcript(), net.nodes), (base, [1]))
+            with self.assertRaises(Ended) as raised:
+                net.show(1)
+        self.assertEqual((raised.exception.status, raised.exception.last_line), (4, "! log full"))
+
     def test_of_a_header_alone(self) -> None:
         with Network.resume(b"matching hh 2\n") as net:
             self.assertEqual(net.link(1, 2).entry, 1)
