@@ -3,16 +3,16 @@
 
 Each node has its own registers and rules, while the world cuts links, removes nodes and writes registers.
 
-usage: examples/own_nodes.py [--rules hh|manne] [--proved] [--events N] [--seed S] [--mistake low|stale]
-                             [--log FILE]
+usage: examples/own_nodes.py [--rules hh|manne] [--proved] [--saw] [--events N] [--seed S]
+                             [--mistake low|stale|late] [--log FILE]
 
 A node moves after all its neighbours, and the node itself, have granted it their locks. Each grant carries
 the granter's registers. Then the node chooses its move by these copies, writes the move into the log, and
 releases all locks with its new registers. The rules are written in this file; with --proved the nodes ask
 rudekpi.local_rule, the proved rule of one node. With --mistake one node breaks the rules: with `low` it
 seduces a neighbour below it, with `stale` it chooses by the copies that it had before it asked for the
-locks. The log is also written to FILE. If FILE is `-`, the log goes to standard output, and there is no
-verdict.
+locks, and with `late` it writes after it has released the locks. With --saw the log has what each node saw.
+The log is also written to FILE. If FILE is `-`, the log goes to standard output, and there is no verdict.
 """
 
 from __future__ import annotations
@@ -89,10 +89,10 @@ class Node(Peer):
     """A node's registers, its neighbours' last known ones, and the holder of its lock."""
 
     def __init__(
-        self, name: str, mail: dict[str, asyncio.Queue[Message]], rules: str, log: Log, is_proved: bool
+        self, name: str, mail: dict[str, asyncio.Queue[Message]], rules: str, log: Log, is_proved: bool, has_saw: bool
     ) -> None:
         super().__init__(name, mail)
-        self.rules, self.log, self.is_proved = rules, log, is_proved
+        self.rules, self.log, self.is_proved, self.has_saw = rules, log, is_proved, has_saw
         self.pointer: Optional[str] = None
         self.flag = False
         self.copies: dict[str, Held] = {}
@@ -136,17 +136,24 @@ class Node(Peer):
             # a link that came meanwhile has an end that is not locked
             if set(self.copies) <= names:
                 self.copies.update({name: held[name] for name in self.copies})
-                self.move(self.choose(seen if self.mistake == "stale" else self.copies, chance))
+                near = seen if self.mistake == "stale" else dict(self.copies)
+                chosen = self.choose(near, chance)
+                if self.mistake == "late":
+                    self.let_go(names)
+                    await asyncio.sleep(0.001)
+                self.move(chosen, near)
+                if self.mistake == "late":
+                    continue
             else:
                 self.news.set()
             self.let_go(names)
 
-    def move(self, chosen: Optional[dict[str, Any]]) -> None:
+    def move(self, chosen: Optional[dict[str, Any]], near: dict[str, Held]) -> None:
         if chosen is None:
             return
         self.pointer = chosen.get("pointer", self.pointer)
         self.flag = chosen.get("flag", self.flag)
-        self.log.add(move=self.name, **chosen)
+        self.log.add(move=self.name, **chosen, **({"saw": near} if self.has_saw else {}))
         self.tell()
 
     def choose(self, near: dict[str, Held], chance: random.Random) -> Optional[dict[str, Any]]:
@@ -266,10 +273,10 @@ class World(Peer):
         self.let_go(names)
 
 
-async def played(rules: str, events: int, seed: int, mistake: str, is_proved: bool) -> list[str]:
+async def played(rules: str, events: int, seed: int, mistake: str, is_proved: bool, has_saw: bool) -> list[str]:
     mail: dict[str, asyncio.Queue[Message]] = {}
     log, chance = Log(events), random.Random(seed)
-    nodes = {name: Node(name, mail, rules, log, is_proved) for name in NODES}
+    nodes = {name: Node(name, mail, rules, log, is_proved, has_saw) for name in NODES}
     nodes[ODD].mistake = mistake
     world = World(nodes, mail, log)
     peers: list[Any] = [*nodes.values(), world]
@@ -290,12 +297,13 @@ def main() -> int:
     )
     parser.add_argument("--rules", choices=("hh", "manne"), default="manne")
     parser.add_argument("--proved", action="store_true")
+    parser.add_argument("--saw", action="store_true")
     parser.add_argument("--events", type=int, default=10_000)
     parser.add_argument("--seed", type=int, default=1)
-    parser.add_argument("--mistake", choices=("low", "stale"), default="")
+    parser.add_argument("--mistake", choices=("low", "stale", "late"), default="")
     parser.add_argument("--log", metavar="FILE")
     given = parser.parse_args()
-    lines = asyncio.run(played(given.rules, given.events, given.seed, given.mistake, given.proved))
+    lines = asyncio.run(played(given.rules, given.events, given.seed, given.mistake, given.proved, given.saw))
     if given.log:
         with open(1 if given.log == "-" else given.log, "w", encoding="utf-8") as file:
             file.write("".join(f"{line}\n" for line in lines))
@@ -306,8 +314,8 @@ def main() -> int:
     print(f"{found.events} events, {found.edits} edits, {found.faults} faults, moves: {moves}")
     if found.first:
         print(f"line {found.first.line}: {found.first.wrote}, and the rules do not allow it: {found.first.why}")
-        if found.first.hint:
-            print(found.first.hint)
+        for text in (*(it.text for it in found.first.differences), found.first.hint):
+            print(text, end="\n" if text else "")
     else:
         print("the rules allow all of it")
     return 0 if found else 1

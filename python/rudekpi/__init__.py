@@ -22,10 +22,12 @@ network keeps its transcript in memory.
 """
 
 from . import daemons, graphs
+from .ages import Ages, PairAges
 from .audits import audit, epochs
 from .batch import Batch, Pending
 from .bursts import Burst, bursts
-from .conformance import Conformance, Divergence, conform
+from .conformance import Conformance, conform
+from .divergences import Divergence
 from .errors import (
     BadLine,
     BadView,
@@ -42,6 +44,7 @@ from .errors import (
 )
 from .explanations import Explanation, explain
 from .local_rules import LocalMove, local_rule, may_move
+from .move_tallies import MoveTally
 from .name_files import read_names, write_names
 from .network import Network
 from .parts import audit_parts
@@ -68,6 +71,7 @@ from .replies import (
 )
 from .replays import replay
 from .schedules import longest
+from .stale_reads import Difference
 from .storms import storm
 from .sweeps import sweep
 from .traces import Trace, TraceEvent, read_trace
@@ -76,6 +80,7 @@ __version__ = "1.0.0"
 
 __all__ = [
     "Accepted",
+    "Ages",
     "Audit",
     "BadLine",
     "BadView",
@@ -84,6 +89,7 @@ __all__ = [
     "Burst",
     "Conformance",
     "Damaged",
+    "Difference",
     "Divergence",
     "Enabled",
     "Ended",
@@ -95,10 +101,12 @@ __all__ = [
     "Lost",
     "Matching",
     "Move",
+    "MoveTally",
     "Moves",
     "Network",
     "NoReply",
     "NoSuchCommand",
+    "PairAges",
     "PartnerCounts",
     "PastBound",
     "Pending",

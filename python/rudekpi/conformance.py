@@ -8,54 +8,33 @@ question and explain the answer.
 from __future__ import annotations
 
 import contextlib
-import heapq
 import json
 import os
 import re
-from collections import Counter
 from dataclasses import dataclass
-from typing import Any, BinaryIO, Callable, Mapping, NamedTuple, Optional, Sequence, Tuple, Union
+from typing import Any, BinaryIO, Callable, Mapping, Optional, Sequence, Union
 
 from . import log_lines, rules
+from .ages import Histories, PairAges, time_of
+from .divergences import Diagnosis, Divergence, Judged, LastMove, Place, refusal_text
 from .engines import RULES, Engine, Stand, engine_of
 from .errors import BadLine, Garbled
 from .files import WholeFile
-from .library import MOVES, REFUSALS
-from .log_lines import Log, cut, shown, spelled
+from .library import MOVES
+from .log_lines import Log, shown, spelled
+from .move_tallies import STALE, WRONG, MoveTallies, MoveTally
 from .name_files import write_names
 from .numbers import MOST_NODES
+from .observed_moves import ABANDON, CHOOSING, UPDATE, Observed, is_allowed, is_plain, observed, rule_of
 from .program import Program
-from .reasons import Reasons
 from .replies import Name
+from .stale_reads import StaleReads
 from .state import State
+from .views import Rule, View, ViewReader, rule_on_views
 
-UPDATE, ABANDON = RULES["update"], RULES["abandon"]
-CHOOSING = RULES["marry"], RULES["seduce"]
-# how many of the neighbours' last writes are tried as a node's stale copy
-MOST_TRIED = 64
-# the line that wrote a node's registers, and their values before it
-Write = Tuple[int, int, bool]
+# how many lines back a stale copy is guessed at
+AGE = 100
 Target = Union[str, "os.PathLike[str]", BinaryIO, None]
-
-
-@dataclass(frozen=True)
-class Divergence:
-    """A move that the rules do not allow.
-
-    `line` is the number of the log's line. `rule` is the rule that was enabled, or None, and `targets` are
-    the targets that it allowed. `entries` is how many entries the transcript had before.
-    """
-
-    line: int
-    node: Name
-    wrote: str
-    rule: Optional[str]
-    targets: tuple[Name, ...]
-    why: str
-    entries: int
-    event: str
-    around: tuple[str, ...] = ()
-    hint: str = ""
 
 
 @dataclass(frozen=True)
@@ -66,6 +45,11 @@ class Conformance:
     status; its `charge` plus the moves spent since the last edit or fault is within `bound`. `names` are the
     log's, in the order of the numbers. If no fault could write what was observed, `stopped` says why, and the
     rest was not judged.
+
+    `viewed` counts the moves with a `saw`. Of these, `wrong_views` broke the rule on what their nodes saw, and
+    `stale_moves` followed it, but the machine refused them. `tallies` has the nodes and rules with such moves
+    or divergences, if the judge went on after a divergence. `ages` has the pairs of nodes with stale reads, if
+    it judged by views.
     """
 
     rules: str
@@ -79,6 +63,11 @@ class Conformance:
     stopped: str
     stand: Stand
     bound: int
+    viewed: int = 0
+    wrong_views: int = 0
+    stale_moves: int = 0
+    tallies: tuple[MoveTally, ...] = ()
+    ages: tuple[PairAges, ...] = ()
 
     @property
     def is_accepted(self) -> bool:
@@ -88,45 +77,16 @@ class Conformance:
         return self.is_accepted
 
 
-class Observed(NamedTuple):
-    """A node's registers before and after a move, its wish, and the only rule that writes like this.
-
-    Pointers are numbers, 0 for null. `wish` is the step's target, or 0. `rule` is 0 for marry or seduce, -1
-    for no rule.
-    """
-
-    node: int
-    old: int
-    new: int
-    was: bool
-    flag: bool
-    wish: int
-    rule: int
-
-
-def observed(node: int, old: int, new: int, was: bool, flag: bool) -> Observed:
-    if flag != was:
-        return Observed(node, old, new, was, flag, 0, UPDATE if new == old else -1)
-    if new == old:
-        return Observed(node, old, new, was, flag, 0, -1)
-    return Observed(node, old, new, was, flag, new, 0 if new else ABANDON)
-
-
-def is_plain(move: Any) -> bool:
-    """Whether this is a move that writes one register, as most moves do."""
-    return isinstance(move, dict) and len(move) == 2 and "move" in move and ("pointer" in move or "flag" in move)
-
-
 class Named:
     """The names of a log's nodes, and their numbers in the transcript."""
 
-    def __init__(self, number: int, head: Any) -> None:
+    def __init__(self, number: int, head: Any, ignores_extra: bool = False) -> None:
         if not isinstance(head, dict) or "nodes" not in head:
             raise BadLine(
                 number, 'a log begins with {"nodes": ["a", "b", ..], "capacity": N}' + f", not {spelled(head)}"
             )
-        odd = next((key for key in head if key not in ("nodes", "capacity", log_lines.FREE)), None)
-        if odd is not None:
+        odd = next((key for key in head if key not in ("nodes", "capacity", *log_lines.FREE)), None)
+        if odd is not None and not ignores_extra:
             raise BadLine(number, f"the first line has nodes and capacity, and no key {spelled(odd)}")
         nodes = head["nodes"]
         if not isinstance(nodes, (list, tuple)):
@@ -187,13 +147,16 @@ class Named:
 
 
 class LogJudge:
-    """Judges a log line by line; `resync` and `on_divergence` are those of `conform`."""
+    """Judges a log line by line; the options are those of `conform`."""
 
     def __init__(
         self,
         rules: str,
         *,
         resync: bool = False,
+        views: bool = False,
+        age: int = AGE,
+        ignore_extra: bool = False,
         keeps: bool = False,
         on_divergence: Optional[Callable[[Divergence], object]] = None,
         program: Program = None,
@@ -201,7 +164,10 @@ class LogJudge:
     ) -> None:
         if rules not in ("hh", "manne"):
             raise ValueError(f"rules are 'hh' or 'manne', and not {rules!r}")
-        self.rules, self.resync, self.keeps, self.on_divergence = rules, resync, keeps, on_divergence
+        if type(age) is not int or age < 0:
+            raise ValueError(f"an age is how many lines, 0 or more, and not {age!r}")
+        self.rules, self.resync, self.keeps, self.on_divergence = (rules, resync or views, keeps, on_divergence)
+        self.views, self.age, self.ignore_extra = views, age, ignore_extra
         self.made_of = program, engine
         self.named: Optional[Named] = None
         self.has_flags = rules == "manne"
@@ -215,8 +181,19 @@ class LogJudge:
         self.stopped, self.is_over, self.is_closed = "", False, False
         # the verdict up to an interrupt
         self.so_far: Optional[Conformance] = None
-        # the last two writes of each node
-        self.written: dict[int, tuple[Write, Optional[Write]]] = {}
+        # the time of the line
+        self.time: Optional[float] = None
+        self.past: Histories
+        self.rule: Rule
+        self.reader: ViewReader
+        self.reads: StaleReads
+        self.diagnosis: Diagnosis
+        self.viewed = self.wrong_views = self.stale_moves = 0
+        self.tallies = MoveTallies()
+        # pointers across links that are gone, which the machine does not hold: of stale views alone
+        self.dangling: dict[int, int] = {}
+        # the last move of each node with a view, and its line and view
+        self.last_seen: dict[int, LastMove] = {}
 
     def take(self, block: log_lines.Block) -> None:
         """Judges the next lines, until a divergence ends the judging. Raises `BadLine`."""
@@ -242,12 +219,18 @@ class LogJudge:
 
     def take_register(self, number: int, line: bytes, found: re.Match[bytes]) -> bool:
         """Judges a line that names one register; returns False if its names are not in the usual spelling."""
-        kind, name, target, flag = found.groups()
+        time, kind, name, target, flag, saw = found.groups()
         node = self.raw.get(name)
         if node is None:
             return False
+        view: Optional[View] = None
+        if saw is not None:
+            view = self.reader.usual(saw) if kind == b"move" else None
+            if view is None:
+                return False
+        self.time = None if time is None else float(time)
         state = self.state
-        old, was = state.pointers.get(node, 0), node in state.flags
+        old, was = state.pointers.get(node, 0) or self.dangling.get(node, 0), node in state.flags
         if target is None:
             seen = observed(node, old, old, was, flag == b"true")
         else:
@@ -255,34 +238,46 @@ class LogJudge:
             if new is None:
                 return False
             seen = observed(node, old, new, was, was)
-        if kind == b"move":
+        if view:
+            self.move_seen(number, line, seen, view)
+        elif kind == b"move":
             self.move(number, line, seen)
         else:
             self.fault(number, seen, target is not None, target is None)
         return True
 
     def take_edge(self, number: int, found: re.Match[bytes]) -> bool:
-        kind, *names = found.groups()
+        time, kind, *names = found.groups()
         a, b = map(self.raw.get, names)
         if not self.named or not a or not b:
             return False
+        self.time = None if time is None else float(time)
         self.edit_numbers(number, kind.decode(), [a, b], self.named)
         return True
 
     def begin(self, number: int, head: Any) -> None:
-        named = Named(number, head)
+        named = Named(number, head, self.ignore_extra)
         present = len(named.all)
         self.raw = named.raw
         self.machine = engine_of(self.rules, named.capacity, present, self.keeps, *self.made_of)
         self.state = State(self.rules, named.capacity, range(1, present + 1))
         self.named = named
+        self.past, self.reader = Histories(named.capacity), ViewReader(self.rules, self.raw)
+        self.rule = rule_on_views(self.rules, *self.made_of)
+        self.reads = StaleReads(self.state, self.past, self.dangling, self.shown, self.name)
+        self.diagnosis = Diagnosis(self.state, self.past, self.reads, self.age, self.shown, self.name)
 
     def take_event(self, number: int, event: Any, named: Named) -> None:
-        kind = log_lines.kind_of(number, event)
+        kind = log_lines.kind_of(number, event, self.ignore_extra)
+        self.time = time_of(event)
         if kind == "move":
-            self.move(number, event, self.observed(number, event, "move", named))
+            seen = self.observed(number, event, "move", named)
+            if "saw" in event:
+                self.move_seen(number, event, seen, self.reader.read(number, event["saw"], named))
+            else:
+                self.move(number, event, seen)
         elif kind == "moves":
-            self.moves(number, event, self.all_observed(number, event["moves"], named))
+            self.moves(number, event, *self.all_observed(number, event["moves"], named))
         elif kind == "fault":
             self.fault(number, self.observed(number, event, "fault", named), "pointer" in event, "flag" in event)
         else:
@@ -291,7 +286,7 @@ class LogJudge:
     def observed(self, number: int, event: Any, kind: str, named: Named) -> Observed:
         node = named.number(number, event[kind])
         state = self.state
-        old = new = state.pointers.get(node, 0)
+        old = new = state.pointers.get(node, 0) or self.dangling.get(node, 0)
         was = flag = node in state.flags
         if "pointer" in event:
             target = event["pointer"]
@@ -304,20 +299,24 @@ class LogJudge:
                 raise BadLine(number, f"a flag is true or false, and not {spelled(flag)}")
         return observed(node, old, new, was, flag)
 
-    def all_observed(self, number: int, moves: Any, named: Named) -> list[Observed]:
+    def all_observed(
+        self, number: int, moves: Any, named: Named
+    ) -> tuple[Sequence[Observed], Sequence[Optional[View]]]:
         if not isinstance(moves, (list, tuple)) or not moves:
             raise BadLine(number, f"moves is a list of one move or more, and not {spelled(moves)}")
         if len(moves) > MOST_NODES:
             raise BadLine(number, f"{len(moves)} moves are more than a step takes, which is {MOST_NODES}")
         found = []
+        views: list[Optional[View]] = []
         for at, move in enumerate(moves, 1):
             try:
-                if not is_plain(move) and log_lines.kind_of(number, move) != "move":
+                if not is_plain(move) and log_lines.kind_of(number, move, self.ignore_extra) != "move":
                     raise BadLine(number, f"in moves stand moves alone, and not {spelled(move)}")
                 found.append(self.observed(number, move, "move", named))
+                views.append(self.reader.read(number, move["saw"], named) if "saw" in move else None)
             except BadLine as error:
                 raise BadLine(number, f"move {at} of the line: {error.why}") from None
-        return found
+        return found, views
 
     def edit(self, number: int, event: Any, kind: str, named: Named) -> None:
         """Raises `BadLine` if the machine refuses the edit."""
@@ -337,18 +336,33 @@ class LogJudge:
         if refusal:
             names = " and ".join(map(named.shown, numbers))
             raise BadLine(number, f"the machine refuses to {kind} {names}: {refusal_text(refusal)}")
-        self.remember_cleared(number, kind, numbers)
+        self.remember(number, kind, numbers)
         getattr(self.state, kind)(*numbers)
+        if self.dangling:
+            self.take_dangling(kind, numbers)
         self.edits += 1
 
-    def remember_cleared(self, number: int, kind: str, numbers: Sequence[int]) -> None:
-        state = self.state
-        ends = [(numbers[0], numbers[1]), (numbers[1], numbers[0])] if kind == "unlink" else []
+    def remember(self, number: int, kind: str, numbers: Sequence[int]) -> None:
+        """Remembers an edit, before it is made, with the registers that it clears."""
+        state, node, past = self.state, numbers[0], self.past
+        if kind == "link":
+            past.link(number, self.time, node, numbers[1], True)
+        for other in numbers[1:] if kind == "unlink" else state.neighbours[node] if kind == "leave" else ():
+            past.link(number, self.time, node, other, False)
+            for one, end in ((node, other), (other, node)):
+                self.reads.table.forget(one, end)
+                if state.pointers.get(one) == end:
+                    past.write(number, self.time, one, 0, one in state.flags)
+        if kind == "leave" and (node in state.flags or node in self.dangling):
+            past.write(number, self.time, node, 0, False)
+
+    def take_dangling(self, kind: str, numbers: Sequence[int]) -> None:
+        """After an edit the machine takes over the pointers that cross a new link."""
         if kind == "leave":
-            ends = [(other, numbers[0]) for other in state.neighbours[numbers[0]]]
-        for node, other in ends:
-            if state.pointers.get(node) == other:
-                self.remember(number, node, other, node in state.flags)
+            self.dangling.pop(numbers[0], None)
+        for node, other in (numbers, numbers[::-1]) if kind == "link" else ():
+            if self.dangling.get(node) == other and not self.machine.edit("point", node, other):
+                self.state.point(node, self.dangling.pop(node))
 
     def fault(self, number: int, seen: Observed, has_pointer: bool, has_flag: bool) -> None:
         """Writes registers. Raises `BadLine` if no fault can write them."""
@@ -356,7 +370,11 @@ class LogJudge:
         if has_flag and not refusal:
             refusal = self.machine.edit("flag", seen.node, int(seen.flag))
         if refusal:
-            raise BadLine(number, f"the machine refuses this fault ({self.wrote(seen)}): {refusal_text(refusal)}")
+            raise BadLine(
+                number, f"the machine refuses this fault ({self.diagnosis.wrote(seen)}): {refusal_text(refusal)}"
+            )
+        if has_pointer and self.dangling:
+            self.dangling.pop(seen.node, None)
         self.write(number, seen)
         self.faults += 1
 
@@ -364,42 +382,118 @@ class LogJudge:
         node, old, new, was, flag, _, _ = seen
         if new != old:
             self.state.point(node, new)
+        elif flag == was:
+            return
         if flag != was:
             self.state.flag(node, flag)
-        before = self.written.get(node)
-        self.written[node] = (number, old, was), before[0] if before else None
-
-    def remember(self, number: int, node: int, old: int, was: bool) -> None:
-        before = self.written.get(node)
-        self.written[node] = (number, old, was), before[0] if before else None
+        self.past.write(number, self.time, node, new, flag)
 
     def move(self, number: int, line: Any, seen: Observed) -> None:
         """Asks the machine to make a move; a refusal is a divergence."""
-        if not self.can_be_asked(seen):
-            return self.ask_enabled(number, line, [seen], seen)
-        rule = self.machine.moved(seen.node, seen.wish)
-        if rule < 0:
-            return self.diverge(number, line, [seen], -rule)
-        if rule != seen.rule and (seen.rule or rule not in CHOOSING):
-            raise Garbled(f"line {number}: the machine moved by {MOVES[rule]}")
+        rule = self.asked(number, seen)
+        if rule <= 0:
+            return self.diverge(number, line, [Judged(seen, None, 0)], -rule)
         self.counts[rule] += 1
+        if self.resync:
+            self.tallies.moved(seen.node, rule)
         self.write(number, seen)
 
-    def moves(self, number: int, line: Any, seen: Sequence[Observed]) -> None:
+    def asked(self, number: int, seen: Observed) -> int:
+        """The rule by which the machine makes a move; else minus its refusal, 0 if it could not be asked."""
+        if seen.node in self.dangling:
+            return 0
+        if not self.can_be_asked(seen):
+            self.check_enabled(number, seen)
+            return 0
+        rule = self.machine.moved(seen.node, seen.wish)
+        if rule > 0 and rule != seen.rule and (seen.rule or rule not in CHOOSING):
+            raise Garbled(f"line {number}: the machine moved by {MOVES[rule]}")
+        return rule
+
+    def move_seen(self, number: int, line: Any, seen: Observed, view: View) -> None:
+        """Judges a move by what its node saw, and has the machine make it."""
+        verdict = self.rule.verdict(seen, view)
+        self.viewed += 1
+        if self.views:
+            self.reads.count(number, self.time, seen.node, view)
+        rule = self.asked(number, seen)
+        if rule > 0 and verdict > 0:
+            self.counts[rule] += 1
+            if self.resync:
+                self.tallies.moved(seen.node, verdict)
+            self.write(number, seen)
+        else:
+            self.settle(number, line, [Judged(seen, view, verdict)], -rule, [rule] if rule > 0 else [])
+        self.last_seen[seen.node] = number, seen, view
+
+    def moves(self, number: int, line: Any, seen: Sequence[Observed], views: Sequence[Optional[View]]) -> None:
+        judged = [Judged(it, view, self.rule.verdict(it, view) if view else 0) for it, view in zip(seen, views)]
+        for it, view, _ in judged:
+            if view:
+                self.viewed += 1
+                if self.views:
+                    self.reads.count(number, self.time, it.node, view)
+        self.settle(number, line, judged, *self.asked_at_once(number, seen))
+        for it, view, _ in judged:
+            if view:
+                self.last_seen[it.node] = number, it, view
+
+    def asked_at_once(self, number: int, seen: Sequence[Observed]) -> tuple[int, Sequence[int]]:
+        """The machine's refusal, 0 if it could not be asked; and, if it made the moves, their rules."""
         is_central = not self.has_flags and len(seen) > 1
+        if self.dangling and any(it.node in self.dangling for it in seen):
+            return 0, []
         odd = None if is_central else next((it for it in seen if not self.can_be_asked(it)), None)
         if odd:
-            return self.ask_enabled(number, line, seen, odd)
+            self.check_enabled(number, odd)
+            return 0, []
         refusal, moves = self.machine.step([(it.node, it.wish) for it in seen])
-        if refusal:
-            return self.diverge(number, line, seen, refusal)
         made = {node: rule for node, rule, _ in moves}
-        for it in seen:
+        for it in seen if not refusal else ():
             rule = made[it.node]
             if rule != it.rule and (it.rule or rule not in CHOOSING):
                 raise Garbled(f"line {number}: the machine's moves are {moves}")
-            self.counts[rule] += 1
-            self.write(number, it)
+        return refusal, [] if refusal else [made[it.node] for it in seen]
+
+    def settle(self, number: int, line: Any, judged: Sequence[Judged], refusal: int, made: Sequence[int]) -> None:
+        """Reports moves that are wrong; follows those that the machine made, and writes others as faults."""
+        wrong = [it for it in judged if it.view and it.verdict <= 0]
+        self.wrong_views += len(wrong)
+        reported = [it for it in wrong if self.views] + ([] if made or not self.views else self.by_order(judged))
+        if not made and (not self.views or not (reported or any(it.view for it in judged))):
+            return self.diverge(number, line, judged, refusal)
+        for it in reported:
+            self.report(number, line, [it], refusal, it.seen)
+        told = {id(it) for it in reported}
+        for at, it in enumerate(judged):
+            if made:
+                self.counts[made[at]] += 1
+            if self.resync and id(it) not in told:
+                self.tally(it, bool(made), made[at] if made else 0)
+            if made:
+                self.write(number, it.seen)
+        for it in judged if not made else ():
+            if not self.is_over:
+                self.write_as_fault(number, it.seen)
+
+    def by_order(self, judged: Sequence[Judged]) -> list[Judged]:
+        """The moves without a view that the rules do not allow, and those of nodes that are not present."""
+        return [
+            it
+            for it in judged
+            if (not it.view and not is_allowed(self.state, it.seen))
+            or (it.view and it.verdict > 0 and it.seen.node not in self.state.neighbours)
+        ]
+
+    def tally(self, it: Judged, is_made: bool, rule: int) -> None:
+        """Counts a move that is not reported; if the machine refused it, then its view was stale."""
+        is_stale = not is_made and it.view and it.seen.node in self.state.neighbours
+        rule = it.verdict if it.view and it.verdict > 0 else rule or self.rule_for(it.seen)
+        if is_stale and (it.seen.node in self.dangling or not is_allowed(self.state, it.seen)):
+            self.stale_moves += 1
+            self.tallies.diverged(it.seen.node, rule, STALE)
+        else:
+            self.tallies.moved(it.seen.node, rule)
 
     def can_be_asked(self, seen: Observed) -> bool:
         """Whether a step that the machine accepts must be the one observed.
@@ -415,110 +509,68 @@ class LogJudge:
         is_wrong = was != (old != 0 and self.state.pointers.get(old) == node)
         return rule == (UPDATE if is_wrong else ABANDON)
 
-    def ask_enabled(self, number: int, line: Any, seen: Sequence[Observed], odd: Observed) -> None:
+    def check_enabled(self, number: int, odd: Observed) -> None:
         """Asks for the enabled nodes, if a move is by no rule, or not by the enabled one."""
         rule = self.machine.enabled().get(odd.node)
         if rule and RULES[rule] == odd.rule:
             raise Garbled(f"line {number}: the machine has {rule} enabled at {self.shown(odd.node)}")
-        self.diverge(number, line, seen, 0)
 
-    def diverge(self, number: int, line: Any, seen: Sequence[Observed], refusal: int) -> None:
+    def diverge(self, number: int, line: Any, judged: Sequence[Judged], refusal: int) -> None:
         """Reports moves that the machine refuses; writes them as faults if the judge goes on."""
-        found = self.divergence(number, line, seen, refusal)
-        self.divergences += 1
-        self.first = self.first or found
-        if self.on_divergence:
-            self.on_divergence(found)
+        bad = self.diagnosis.bad_of(judged) or judged[0]
+        self.report(number, line, judged, refusal, bad.seen)
         if not self.resync:
             self.is_over = True
             return
-        for it in seen:
+        for it in judged:
+            if it is not bad:
+                self.tallies.moved(it.seen.node, self.rule_for(it.seen))
+        for it in judged:
             if not self.is_over:
-                self.write_as_fault(number, it)
+                self.write_as_fault(number, it.seen)
+
+    def report(self, number: int, line: Any, judged: Sequence[Judged], refusal: int, bad: Observed) -> None:
+        place = Place(number, self.time, line, self.machine.entry())
+        found = self.diagnosis.divergence(place, judged, refusal, self.last_seen)
+        self.divergences += 1
+        self.first = self.first or found
+        is_stale = found.kind == "stale" or (found.kind == "order" and found.hint)
+        if found.kind == "stale":
+            self.stale_moves += 1
+        self.tallies.diverged(bad.node, self.rule_for(bad), STALE if is_stale else WRONG)
+        if self.on_divergence:
+            self.on_divergence(found)
+
+    def rule_for(self, seen: Observed) -> int:
+        """The rule that a move is counted by: the one that allows it, or else one that writes so; 0 for none."""
+        if seen.rule:
+            return max(0, seen.rule)
+        allowed = rule_of(self.state, seen)
+        return allowed or CHOOSING[self.state.pointers.get(seen.new) != seen.node]
 
     def write_as_fault(self, number: int, seen: Observed) -> None:
-        """Writes what was observed as faults; ends the judging if no fault can write it."""
-        node = seen.node
+        """Writes what was observed as faults; ends the judging if no fault can write it.
+
+        With views a pointer across a link that is gone is remembered, and the machine's is null.
+        """
+        node, state, new = seen.node, self.state, seen.new
+        self.dangling.pop(node, None)
+        if self.views and new and node in state.neighbours and new not in state.neighbours[node]:
+            self.dangling[node], new = new, 0
         for word, is_new, value in (
-            ("point", seen.new != self.state.pointers.get(node, 0), seen.new),
-            ("flag", seen.flag != (node in self.state.flags), int(seen.flag)),
+            ("point", new != state.pointers.get(node, 0), new),
+            ("flag", seen.flag != (node in state.flags), int(seen.flag)),
         ):
             refusal = self.machine.edit(word, node, value) if is_new else 0
             if refusal:
-                what = self.wrote(seen)
+                what = self.diagnosis.wrote(seen)
                 self.stopped = f"line {number}: no fault can write this ({what}): {refusal_text(refusal)}"
                 self.is_over = True
                 return
-        state = self.state
-        state.point(node, seen.new)
+        state.point(node, new)
         state.flag(node, seen.flag)
-
-    def divergence(self, number: int, line: Any, seen: Sequence[Observed], refusal: int) -> Divergence:
-        words = Reasons(self.state, self.shown)
-        # the first move that the rules do not allow; none if the only fault is that several move at once
-        wrong = next((it for it in seen if not is_allowed(self.state, it)), None)
-        bad = wrong or seen[0]
-        node = bad.node
-        is_there = node in self.state.neighbours
-        rule = rules.rule_at(self.state, node) if is_there else None
-        numbers = rules.targets(self.state, node, rule) if rule else []
-        return Divergence(
-            number,
-            self.name(node),
-            self.wrote(bad),
-            rule,
-            tuple(map(self.name, numbers)),
-            self.why(words, bad) if wrong else self.why_together(seen, refusal),
-            self.machine.entry(),
-            spelled_line(line),
-            tuple(words.around(node)) if is_there else (),
-            self.hint(bad) if wrong else "",
-        )
-
-    def why(self, words: Reasons, bad: Observed) -> str:
-        more: Optional[str] = None
-        if bad.flag != bad.was and not words.has_flags:
-            more = "there are no flags under hh"
-        elif bad.rule < 0:
-            more = "no rule writes both registers" if bad.flag != bad.was else "it holds that already"
-        elif bad.new and bad.rule != UPDATE:
-            more = words.why_not_at(bad.node, bad.new)
-        return words.allowed(bad.node) + (f"; {more}" if more else "")
-
-    def why_together(self, seen: Sequence[Observed], refusal: int) -> str:
-        """Why moves that the rules allow one by one cannot be made at once."""
-        nodes = [it.node for it in seen]
-        twice = next((node for node, count in Counter(nodes).items() if count > 1), None)
-        if self.rules == "hh":
-            return f"{cut(', '.join(map(self.shown, nodes)))} move at once, and under hh one node moves at a time"
-        if twice:
-            return f"{self.shown(twice)} moves twice in one step"
-        return f"the machine refuses this step: {refusal_text(refusal)}"
-
-    def hint(self, bad: Observed) -> str:
-        """Which stale copy the node may have read, if its move was allowed before that neighbour wrote."""
-        state = self.state
-        near = (other for other in state.neighbours.get(bad.node, ()) if other in self.written)
-        writes = [(*write, other) for other in near for write in self.written[other] if write]
-        for line, pointer, flag, other in heapq.nlargest(MOST_TRIED, writes):
-            held = state.pointers.get(other, 0), other in state.flags
-            state.point(other, pointer)
-            state.flag(other, flag)
-            was_allowed = is_allowed(state, bad)
-            state.point(other, held[0])
-            state.flag(other, held[1])
-            if was_allowed:
-                return (
-                    f"with what {self.shown(other)} held before line {line} it was allowed: "
-                    f"{self.shown(bad.node)} may have read a stale copy of {self.shown(other)}"
-                )
-        return ""
-
-    def wrote(self, seen: Observed) -> str:
-        pointer = "null" if not seen.new else self.shown(seen.new)
-        parts = [f"pointer {pointer}"] if seen.new != seen.old else []
-        parts += [f"flag {str(seen.flag).lower()}"] if seen.flag != seen.was else []
-        return f"{self.shown(seen.node)} wrote {' and '.join(parts) or 'nothing new'}"
+        if (seen.new, seen.flag) != (seen.old, seen.was):
+            self.past.write(number, self.time, node, seen.new, seen.flag)
 
     def shown(self, number: int) -> str:
         return self.named.shown(number) if self.named else str(number)
@@ -546,33 +598,17 @@ class LogJudge:
             self.stopped,
             stand,
             rules.most_moves(self.rules, stand.edges, stand.nodes),
+            self.viewed,
+            self.wrong_views,
+            self.stale_moves,
+            self.tallies.rows(self.name) if self.resync else (),
+            self.reads.table.rows(self.name) if self.views else (),
         )
 
     def close(self) -> None:
         if self.named and not self.is_closed:
             self.is_closed = True
             self.machine.close()
-
-
-def spelled_line(line: Any) -> str:
-    if not isinstance(line, bytes):
-        return spelled(line)
-    text = line.decode().strip()
-    return cut(text if text.isprintable() else ascii(text)[1:-1])
-
-
-def refusal_text(number: int) -> str:
-    return f"{number} {REFUSALS[number - 1]}"
-
-
-def is_allowed(state: State, seen: Observed) -> bool:
-    """Whether the rules seem to allow what was observed; for messages only."""
-    if seen.node not in state.neighbours or seen.rule < 0:
-        return False
-    rule = rules.rule_at(state, seen.node)
-    if rule is None:
-        return False
-    return seen.new in rules.targets(state, seen.node, rule) if not seen.rule else seen.rule == RULES[rule]
 
 
 class Transcript:
@@ -644,6 +680,9 @@ def conform(
     rules: str,
     *,
     resync: bool = False,
+    views: bool = False,
+    age: int = AGE,
+    ignore_extra: bool = False,
     transcript: Target = None,
     on_divergence: Optional[Callable[[Divergence], object]] = None,
     program: Program = None,
@@ -654,13 +693,24 @@ def conform(
     `log` is given as a transcript to `audit`: a `str` without a line feed, or a `pathlib.Path`, is the path
     of a file; other text, bytes or an open file is its text; anything else yields its lines or its objects,
     one by one. Judging ends at the first divergence; with `resync` it goes on, after the observed
-    values were written as faults. `on_divergence` is called with each divergence at once. `transcript`, a
-    path or a file open for bytes, receives the machine's transcript; for a path the names go to `PATH.names`.
+    values were written as faults. With `views` it goes on too, and a move with a `saw` diverges only if the
+    rule does not allow it on what its node saw. `age` is how many lines back a stale copy is guessed at if
+    there is no `saw`. With `ignore_extra` keys that the judge does not know are ignored. `on_divergence` is
+    called with each divergence at once. `transcript`, a path or a file open for bytes, receives the machine's
+    transcript; for a path the names go to `PATH.names`.
 
     Raises `BadLine` for a line that is no event, or that is an edit or a fault which the machine refuses, and
     `OSError` if the file can't be read.
     """
     judge = LogJudge(
-        rules, resync=resync, keeps=transcript is not None, on_divergence=on_divergence, program=program, engine=engine
+        rules,
+        resync=resync,
+        views=views,
+        age=age,
+        ignore_extra=ignore_extra,
+        keeps=transcript is not None,
+        on_divergence=on_divergence,
+        program=program,
+        engine=engine,
     )
     return judge_blocks(judge, log, transcript)

@@ -8,16 +8,27 @@ import sys
 from typing import Callable, Optional
 
 from . import log_lines, outputs
+from .ages import csv_text, table_lines
 from .audits import audit
-from .conformance import Conformance, Divergence, LogJudge, judge_blocks
+from .conformance import AGE, Conformance, LogJudge, judge_blocks
+from .divergences import Divergence
 from .errors import Ended
 from .explanations import explain
 from .given import read_whole
+from .move_tallies import tally_lines
 from .name_files import names_in, read_names
 from .numbers import counted
 from .replies import Name
 
 DONE, FAILED, BAD_WORDS, FULL, INTERRUPTED = 0, 1, 2, 4, 130
+# how many rows of a table, and differences of a view, are printed
+LISTED, DIFFERENCES = 20, 12
+# what a divergence is, by its kind
+KINDS = {
+    "rule": "and broke the rule on what it saw",
+    "view": "and no state shows what it saw",
+    "stale": "which the rule allows on what it saw, and that was stale",
+}
 # makes the parser of a command: its name, what runs it, and its help
 Command = Callable[[str, Callable[[argparse.Namespace], int], str], argparse.ArgumentParser]
 
@@ -29,9 +40,32 @@ def say(text: str) -> None:
 
 
 def divergence_text(found: Divergence) -> str:
-    lines = [f"line {found.line}: {found.wrote}, and the rules do not allow it", f"    {found.event}", f"  {found.why}"]
-    lines += [f"  {found.hint}"] if found.hint else []
+    kind = KINDS.get(found.kind, "and the rules do not allow it")
+    lines = [f"line {found.line}: {found.wrote}, {kind}", f"    {found.event}"]
+    if found.kind == "stale":
+        lines += [f"  {it.text}" for it in found.differences[:DIFFERENCES]]
+        more = len(found.differences) - DIFFERENCES
+        lines += [f"  and {more} more"] if more > 0 else []
+    lines += [f"  {text}" for text in (found.why, found.hint) if text]
     return "\n".join([*lines, *(f"    {held}" for held in found.around)])
+
+
+def views_text(found: Conformance) -> list[str]:
+    """What the views of moves showed, and the nodes and pairs of nodes that are worst."""
+    lines = []
+    if found.viewed:
+        lines.append(
+            f"on what the nodes saw: {counted(found.viewed, 'move')}, {found.wrong_views} wrong, "
+            f"{found.stale_moves} by stale views"
+        )
+    for head, rows, all_rows in (
+        ("nodes and rules", tally_lines(found.tallies[:LISTED], log_lines.shown), found.tallies),
+        ("stale reads", table_lines(found.ages[:LISTED], log_lines.shown), found.ages),
+    ):
+        if all_rows:
+            worst = f", the worst {LISTED} of {len(all_rows)}" if len(all_rows) > LISTED else ""
+            lines += [f"{head}{worst}:", *(f"  {row}" for row in rows)]
+    return lines
 
 
 def verdict_text(found: Conformance) -> str:
@@ -46,7 +80,8 @@ def verdict_text(found: Conformance) -> str:
         f"at the end: {counted(stand.nodes, 'node')}, {counted(stand.edges, 'edge')}, {counted(stand.pairs, 'pair')}, "
         f"{stand.enabled} enabled; spent {stand.spent}, charge {stand.charge}, bound {found.bound}"
     )
-    return "\n".join([*([f"ended: {found.stopped}"] if found.stopped else []), f"{verdict}: {events}", where])
+    ended = [f"ended: {found.stopped}"] if found.stopped else []
+    return "\n".join([*ended, f"{verdict}: {events}", where, *views_text(found)])
 
 
 def log_of(path: str) -> log_lines.Log:
@@ -56,10 +91,16 @@ def log_of(path: str) -> log_lines.Log:
 def run_conform(given: argparse.Namespace) -> int:
     if given.output == "-":
         raise ValueError("a transcript goes to a file, since the verdict goes to standard output")
-    outputs.refuse_clashes([given.output, outputs.names_file(given.output)], [given.log, given.program])
+    if given.ages is not None and not given.views:
+        raise ValueError("--ages needs --views: without it no ages are counted")
+    written = [given.output, outputs.names_file(given.output), given.ages]
+    outputs.refuse_clashes(written, [given.log, given.program])
     judge = LogJudge(
         given.rules,
         resync=given.resync,
+        views=given.views,
+        age=given.age,
+        ignore_extra=given.ignore_extra,
         keeps=given.output is not None,
         on_divergence=lambda found: say(divergence_text(found)),
         program=given.program,
@@ -77,6 +118,8 @@ def run_conform(given: argparse.Namespace) -> int:
         print(f"! {ended.last_line.lstrip('! ')} after {counted(judge.events, 'event')}", file=sys.stderr)
         return FULL
     say(verdict_text(found))
+    if given.ages is not None:
+        outputs.write(given.ages, csv_text(found.ages, log_lines.shown))
     return DONE if found else FAILED
 
 
@@ -110,11 +153,23 @@ def run_explain(given: argparse.Namespace) -> int:
     return FAILED
 
 
+def lines_back(text: str) -> int:
+    if not text.isdecimal() or len(text) > 9:
+        raise argparse.ArgumentTypeError(f"how many lines back is a whole number, and not {text!r}")
+    return int(text)
+
+
 def add_commands(command: Command) -> None:
     conform = command("conform", run_conform, "judges whether the rules allow the moves in the log of your own nodes")
     conform.add_argument("log", nargs="?", default="-", help="a file of JSON Lines (standard input)")
     conform.add_argument("--rules", choices=("hh", "manne"), required=True, help="the rules that your nodes implement")
     conform.add_argument("--resync", action="store_true", help="goes on after a divergence, taking it for a fault")
+    conform.add_argument("--views", action="store_true", help="judges moves by what their nodes saw, and goes on")
+    conform.add_argument("--ages", metavar="FILE", help="a CSV file for the ages of stale reads, with --views")
+    conform.add_argument(
+        "--age", type=lines_back, default=AGE, metavar="N", help=f"how many lines back stale copies are guessed ({AGE})"
+    )
+    conform.add_argument("--ignore-extra", action="store_true", help="ignores keys that the judge does not know")
     conform.add_argument("--output", help="a file for the transcript; the names go to FILE.names")
     conform.add_argument("--program", help="the program that plays")
     why = command("explain", run_explain, "explains why audit refuses a transcript")

@@ -22,17 +22,20 @@ PIECE, LONGEST = 1 << 16, 1 << 24
 UTF_16 = (b"\xff\xfe", b"\xfe\xff")
 # a line with one register or an edge, in the spelling of most writers; strings without escapes
 NAME = rb'"[^"\\\x00-\x1f]*"|[0-9]+'
-TIME = rb'"time": ?-?(?:0|[1-9][0-9]*)(?:\.[0-9]+)?(?:[eE][-+]?[0-9]+)?'
-START, END = rb"\{(?:" + TIME + rb", ?)?", rb"\}\r?"
+WHOLE = rb"-?(?:0|[1-9][0-9]*)"
+TIME = rb'"time": ?(' + WHOLE + rb"(?:\.[0-9]+)?(?:[eE][-+]?[0-9]+)?)"
+START, END = rb'\{(?:"clock": ?' + WHOLE + rb", ?)?(?:" + TIME + rb", ?)?", rb"\}\r?"
 VALUE = rb'(?:"pointer": ?(' + NAME + rb'|null)|"flag": ?(true|false))'
-REGISTER = re.compile(START + rb'"(move|fault)": ?(' + NAME + rb"), ?" + VALUE + END)
+# what the node saw, without its brackets; `views` reads it
+SAW = rb'(?:, ?"saw": ?\{(.*)\]\})?'
+REGISTER = re.compile(START + rb'"(move|fault)": ?(' + NAME + rb"), ?" + VALUE + SAW + END)
 EDGE = re.compile(START + rb'"(link|unlink)": ?\[(' + NAME + rb"), ?(" + NAME + rb")\]" + END)
 # how many characters of a line or a name a message shows
 SHOWN = 200
 EVENTS = ("link", "unlink", "join", "leave", "move", "moves", "fault")
-# the keys of each event besides its own; any line may have a time, which is the writer's
-KEYS = {"move": ("pointer", "flag"), "fault": ("pointer", "flag")}
-FREE = "time"
+# the keys of each event besides its own; any line may have a time, a clock, and what is the writer's
+KEYS = {"move": ("pointer", "flag", "saw"), "fault": ("pointer", "flag")}
+FREE = ("time", "clock", "extra")
 
 
 def cut(text: str, most: int = SHOWN) -> str:
@@ -86,11 +89,9 @@ def why_no_json(line: bytes, error: Exception, is_cut: bool) -> str:
 
 
 def keys_of(made: Any) -> int:
-    """How many keys an event has, including the keys of its moves."""
-    if not isinstance(made, dict):
-        return -1
-    moves = made.get("moves")
-    return len(made) + (sum([len(move) for move in moves if isinstance(move, dict)]) if isinstance(moves, list) else 0)
+    """How many keys an event has, including the keys of what is in it."""
+    inner = made.values() if type(made) is dict else made if type(made) is list else ()
+    return (len(made) if type(made) is dict else 0) + sum([keys_of(it) for it in inner if type(it) in (dict, list)])
 
 
 def object_of(number: int, line: bytes, is_last: bool = False) -> Any:
@@ -162,16 +163,21 @@ def value_of(number: int, line: Any) -> Any:
     return object_of(number, line) if isinstance(line, bytes) else line
 
 
-def kind_of(number: int, event: Any) -> str:
-    """The word of an event, after checking its keys. Raises `BadLine`."""
+def kind_of(number: int, event: Any, ignores_extra: bool = False) -> str:
+    """The word of an event, after checking its keys. Raises `BadLine`.
+
+    With `ignores_extra` keys that are none of an event's are the writer's.
+    """
     if not isinstance(event, dict):
         raise BadLine(number, f'an event is an object, as {{"move": "a", "pointer": "b"}}, and not {spelled(event)}')
     found: list[str] = [key for key in event if key in EVENTS]
     if len(found) != 1:
         raise BadLine(number, why_no_event(event, found))
-    wanted = (found[0], *KEYS.get(found[0], ()), FREE)
+    if "clock" in event and type(event["clock"]) is not int:
+        raise BadLine(number, f"a clock is a whole number, and not {spelled(event['clock'])}")
+    wanted = (found[0], *KEYS.get(found[0], ()), *FREE)
     odd = next((key for key in event if key not in wanted), None)
-    if odd is not None:
+    if odd is not None and not ignores_extra:
         near = difflib.get_close_matches(str(odd), wanted, 1)
         hint = f"{near[0]!r} may be meant" if near else f"its keys are {', '.join(wanted)}"
         raise BadLine(number, f"{found[0]!r} has no key {spelled(odd)}: {hint}")

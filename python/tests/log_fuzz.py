@@ -5,8 +5,9 @@ usage: python/tests/log_fuzz.py [--count N] [--seed S] [--engine library|program
 
 N logs are judged (10,000 by default). A second reading makes a transcript of all that a log claims, with each
 move by the one rule that writes so, and has it audited. A log passes if both find the same first line, and
-agree that it is no event or that the rules do not allow it. Any other error fails. A log that fails is
-printed, and the exit status is 1.
+agree that it is no event or that the rules do not allow it. Some logs say what the nodes saw; they are judged
+by views too, which changes no bad line. Any other error fails. A log that fails is printed, and the exit status
+is 1.
 """
 
 from __future__ import annotations
@@ -28,6 +29,7 @@ from rudekpi import BadLine, Damaged, Divergence, audit, conform  # noqa: E402
 
 EXAMPLES = pathlib.Path(__file__).resolve().parents[2] / "examples"
 KEYS = ["nodes", "capacity", "link", "unlink", "join", "leave", "move", "moves", "fault", "pointer", "flag", "time"]
+FREE = {"time", "clock", "extra"}
 MOVE = re.compile(r"([0-9]+):(update|abandon|marry|seduce)(?:>([0-9]+))?")
 # a verdict, and the line concerned, 0 for all
 Verdict = tuple[str, int]
@@ -67,13 +69,40 @@ def log_of(transcript: str, names: Any = "abcdefghijklmnopqrstuvwxyz") -> list[s
     return log
 
 
+def with_views(rules: str, lines: list[str], chance: random.Random) -> list[str]:
+    """The same log, where most moves say what their nodes saw, often something stale or wrong."""
+    held: dict[Any, list[Any]] = {}
+    near: dict[Any, set[Any]] = {}
+    made = []
+    for line in lines:
+        event = json.loads(line)
+        moves = event.get("moves") or ([event] if "move" in event else [])
+        for move in moves:
+            if chance.random() < 0.8:
+                names = [name for name in sorted(near.get(move["move"], ())) if chance.random() < 0.97]
+                seen = {name: list(held.get(name, [None, False])) for name in names}
+                for name in names:
+                    if chance.random() < 0.1:
+                        seen[name] = [chance.choice([None, *sorted(near)]), chance.random() < 0.5]
+                move["saw"] = {name: it if rules == "manne" else it[:1] for name, it in seen.items()}
+        for write in moves or ([event] if "fault" in event else []):
+            registers = held.setdefault(write.get("move", write.get("fault")), [None, False])
+            registers[0], registers[1] = write.get("pointer", registers[0]), write.get("flag", registers[1])
+        if "link" in event:
+            for a, b in (event["link"], event["link"][::-1]):
+                near.setdefault(a, set()).add(b)
+        made.append(json.dumps(event))
+    return made
+
+
 def samples() -> list[tuple[str, list[str]]]:
     """Logs with their rules, from the examples with few nodes."""
     found = []
     for path in sorted(EXAMPLES.glob("*.transcript")):
         text = path.read_text(encoding="utf-8")
         if len(text) < 20_000:
-            found.append((text.split(" ")[1], log_of(text)))
+            rules, lines = text.split(" ")[1], log_of(text)
+            found += [(rules, lines), (rules, with_views(rules, lines, random.Random(len(text))))]
     return found
 
 
@@ -87,7 +116,7 @@ class Claims:
     """The second reading."""
 
     def __init__(self, rules: str, head: Any) -> None:
-        assert isinstance(head, dict) and set(head) <= {"nodes", "capacity", "time"}
+        assert isinstance(head, dict) and set(head) <= {"nodes", "capacity", *FREE}
         self.names: list[Any] = []
         assert isinstance(head["nodes"], list)
         self.capacity = head.get("capacity", len(head["nodes"]))
@@ -141,10 +170,13 @@ class Claims:
         """What a node holds after a move or a fault."""
         assert (
             isinstance(event, dict)
-            and set(event) <= {kind, "pointer", "flag", "time"}
-            and len(set(event) - {"time"}) > 1
+            and set(event) <= {kind, "pointer", "flag", *FREE} | ({"saw"} if kind == "move" else set())
+            and len(set(event) & {"pointer", "flag"}) > 0
         )
+        self.check_clock(event)
         node = self.number(event[kind])
+        if "saw" in event:
+            self.saw(event["saw"])
         pointer, flag = self.pointers.get(node), self.flags.get(node, False)
         if "pointer" in event:
             pointer = None if event["pointer"] is None else self.number(event["pointer"])
@@ -152,6 +184,18 @@ class Claims:
             assert event["flag"] is True or event["flag"] is False
             flag = event["flag"]
         return node, pointer, flag
+
+    @staticmethod
+    def check_clock(event: Any) -> None:
+        assert type(event.get("clock", 0)) is int
+
+    def saw(self, saw: Any) -> None:
+        assert isinstance(saw, dict)
+        for name, held in saw.items():
+            self.number(name)
+            assert isinstance(held, list) and len(held) in ((1, 2) if self.rules == "hh" else (2,))
+            assert held[0] is None or self.number(held[0])
+            assert len(held) == 1 or held[1] is False or (held[1] is True and self.rules == "manne")
 
     def fault(self, line: int, event: Any) -> None:
         node, pointer, flag = self.wrote(event, "fault")
@@ -182,12 +226,13 @@ class Claims:
     def take(self, line: int, event: Any) -> None:
         assert isinstance(event, dict)
         (kind,) = [key for key in event if key in KEYS[2:9]]
+        self.check_clock(event)
         if kind == "move":
             self.moves(line, [event])
         elif kind == "fault":
             self.fault(line, event)
         else:
-            assert set(event) <= {kind, "time"}
+            assert set(event) <= {kind, *FREE}
             if kind == "moves":
                 self.moves(line, event["moves"])
             else:
@@ -246,6 +291,30 @@ def fault_of_resync(log: bytes, rules: str, engine: str, first: Verdict) -> list
         return [f"the transcript is refused: {damaged}"]
 
 
+def fault_by_views(log: bytes, rules: str, engine: str, first: Verdict) -> list[str]:
+    """What is wrong with a log judged by views: the first bad line is the same, unless the judging ends before."""
+    transcript, told = io.BytesIO(), list[Divergence]()
+    bad = 0
+    try:
+        found = conform(log, rules, engine=engine, views=True, transcript=transcript, on_divergence=told.append)
+        if found.divergences != len(told) or bool(found) != (not told) or found.viewed < found.stale_moves:
+            return [f"by views {found}"]
+        if not found.stopped and first[0] == "bad":
+            return [f"{first}, and by views no bad line"]
+    except BadLine as error:
+        bad = error.line
+    if first[0] == "bad" and bad and bad != first[1]:
+        return [f"{first}, and by views line {bad} is bad"]
+    if any(it.kind not in ("rule", "view", "stale", "order", "together") for it in told):
+        return [f"by views {told}"]
+    try:
+        if transcript.getvalue():
+            audit(transcript.getvalue(), engine=engine)
+        return []
+    except Damaged as damaged:
+        return [f"by views the transcript is refused: {damaged}"]
+
+
 def damaged_value(value: Any, chance: random.Random) -> Any:
     return chance.choice(
         [value, None, True, 1, 0.5, "", "a", "b", "zz", [], {}, [value], -1, "\ud800", 10**30, {"a": value}]
@@ -257,14 +326,18 @@ def damaged_line(line: str, lines: list[str], chance: random.Random) -> str:
     key = chance.choice([*event])
     act = chance.randrange(6)
     if act == 0:
-        event[key] = damaged_value(event[key], chance)
+        inner = event[key] if isinstance(event[key], dict) and event[key] and chance.random() < 0.8 else event
+        key = chance.choice([*inner]) if inner is not event else key
+        inner[key] = damaged_value(inner[key], chance)
     elif act == 1:
         other = json.loads(chance.choice(lines))
         event[key] = other.get(key, other[chance.choice([*other])])
     elif act == 2:
         event[chance.choice(KEYS)] = event.pop(key)
     elif act == 3:
-        event[chance.choice([*KEYS, "time", "note"])] = chance.choice([None, True, False, "a", "c", 1, -0.5, 1e99])
+        event[chance.choice([*KEYS, "time", "note", "clock", "extra", "saw"])] = chance.choice(
+            [None, True, False, "a", "c", 1, -0.5, 1e99]
+        )
     elif act == 4:
         return json.dumps({"moves": [json.loads(chance.choice(lines)) for _ in range(chance.randrange(4))]})
     else:
@@ -313,11 +386,12 @@ def fuzz(count: int, seed: int, engine: str = "library") -> tuple[collections.Co
             rules = "hh" if rules == "manne" else "manne"
         try:
             first, second = first_verdict(log, rules, engine), second_verdict(log, rules, engine)
+            faults = fault_of_resync(log, rules, engine, first) + fault_by_views(log, rules, engine, first)
         except Exception as error:
             wrong.append(f"{error!r}: {rules} {log!r}")
             continue
         counts[first[0]] += 1
-        wrong += [f"{it}: {rules} {log!r}" for it in fault_of_resync(log, rules, engine, first)]
+        wrong += [f"{it}: {rules} {log!r}" for it in faults]
         if first != second:
             wrong.append(f"{first}, and the second reading {second}: {rules} {log!r}")
     return counts, iter(wrong)

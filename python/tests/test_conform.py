@@ -287,7 +287,7 @@ class BadLines(Timed):
         ('{"move": "a", "pointer": "x"}', 'no node has the name "x"'),
         ('{"move": "a", "pointer": 1.5}', "a node's name is a text or a whole number, and not 1.5"),
         ('{"move": "a", "ponter": "b"}', "'pointer' may be meant"),
-        ('{"move": "a", "pointer": "b", "note": 1}', 'no key "note": its keys are move, pointer, flag, time'),
+        ('{"move": "a", "pointer": "b", "note": 1}', 'no key "note": its keys are move, pointer, flag, saw, time'),
         ('{"move": "a", "flag": 1}', "a flag is true or false, and not 1"),
         ('{"move": "a", "move": "a", "pointer": "b"}', 'the key "move" is there twice'),
         ('{"time": 1, "move": "a", "pointer": "b", "time": 2}', 'the key "time" is there twice'),
