@@ -31,7 +31,7 @@ _rudekpi_flags() {
         *,check) _rudekpi_words --help ;;
         *,shell) _rudekpi_words --rules --nodes --present --program --help ;;
         *,json) _rudekpi_words --names --program --help ;;
-        *,conform) _rudekpi_words --rules --resync --views --ages --age --ignore-extra --output --program --help ;;
+        *,conform) _rudekpi_words --rules --resync --views --ages --age --ignore-extra --stop --stuck --output --program --help ;;
         *,explain) _rudekpi_words --names --program --help ;;
         *,bursts) _rudekpi_words --names --no-nodes --partners --program --help ;;
         *,again) _rudekpi_words --output --page --undirected --program --help ;;
@@ -73,7 +73,7 @@ _rudekpi() {
     case $before in
         *'<' | *'>') _rudekpi_files ;;
         --rules) _rudekpi_words hh manne ;;
-        --nodes | --present | --workers | --entry | --roam | --turns | --seeds | --first-seed | --faults | --joins | --leaves | --cut | --add | --rewire | --move | --every | --processes | --dask | --seconds | --seed | --age) : a number, which nobody can complete ;;
+        --nodes | --present | --workers | --entry | --roam | --turns | --seeds | --first-seed | --faults | --joins | --leaves | --cut | --add | --rewire | --move | --every | --processes | --dask | --seconds | --seed | --age | --stuck) : a number, which nobody can complete ;;
         --from | --graph | --trace | --racks | --csv | --plot | --program | --output | --names | --ages | --page) _rudekpi_files ;;
         --daemon) _rudekpi_words synchronous least greatest age seeded greedy helpful local ;;
         --registers) _rudekpi_words any pointer flag ;;

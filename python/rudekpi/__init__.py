@@ -43,7 +43,10 @@ from .errors import (
     WrongChoice,
 )
 from .explanations import Explanation, explain
+from .liveness import Waiting
 from .local_rules import LocalMove, local_rule, may_move
+from .log_merging import merged
+from .log_notes import Note
 from .move_tallies import MoveTally
 from .name_files import read_names, write_names
 from .network import Network
@@ -106,6 +109,7 @@ __all__ = [
     "Network",
     "NoReply",
     "NoSuchCommand",
+    "Note",
     "PairAges",
     "PartnerCounts",
     "PastBound",
@@ -121,6 +125,7 @@ __all__ = [
     "Trace",
     "TraceEvent",
     "Turns",
+    "Waiting",
     "Wish",
     "WrongChoice",
     "audit",
@@ -134,6 +139,7 @@ __all__ = [
     "local_rule",
     "longest",
     "may_move",
+    "merged",
     "play_trace",
     "read_names",
     "read_racks",

@@ -12,7 +12,7 @@ import io
 import math
 from collections import deque
 from dataclasses import dataclass
-from typing import Any, Callable, Deque, Dict, Iterable, NamedTuple, Optional, Tuple
+from typing import Callable, Deque, Dict, Iterable, NamedTuple, Optional, Tuple
 
 from .replies import Name
 
@@ -30,18 +30,6 @@ MOST_BUCKETS = 64 * BUCKETS
 Held = Tuple[int, Optional[float], int, bool]
 # at this line and time the link to a node came (True) or went
 Change = Tuple[int, Optional[float], int, bool]
-
-
-def time_of(event: object) -> Optional[float]:
-    """The time of a line, if that is a finite number."""
-    time: Any = event.get("time") if isinstance(event, dict) else None
-    if type(time) not in (int, float):
-        return None
-    try:
-        found = float(time)
-    except OverflowError:
-        return None
-    return found if math.isfinite(found) else None
 
 
 def since(now: Optional[float], then: Optional[float]) -> Optional[float]:

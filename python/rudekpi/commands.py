@@ -211,11 +211,12 @@ def length(text: str) -> float:
 
 def disturbances_of(given: argparse.Namespace) -> list[Disturbance]:
     counts = (given.joins, given.leaves, given.cut, given.add, given.rewire, given.move, given.every)
-    files = {
-        "trace": read_trace(given.trace) if given.trace is not None else None,
-        "racks": read_racks(given.racks) if given.racks is not None else None,
-    }
-    return [Disturbance(count, given.registers, *counts, given.any_value, **files) for count in given.faults]
+    trace = read_trace(given.trace) if given.trace is not None else None
+    racks = read_racks(given.racks) if given.racks is not None else None
+    return [
+        Disturbance(count, given.registers, *counts, given.any_value, trace=trace, racks=racks)
+        for count in given.faults
+    ]
 
 
 def reach(address: str) -> None:

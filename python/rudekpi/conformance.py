@@ -11,17 +11,22 @@ import contextlib
 import json
 import os
 import re
-from dataclasses import dataclass
-from typing import Any, BinaryIO, Callable, Mapping, Optional, Sequence, Union
+from dataclasses import dataclass, replace
+from typing import Any, BinaryIO, Callable, Iterator, Mapping, Optional, Sequence, Union
 
 from . import log_lines, rules
-from .ages import Histories, PairAges, time_of
-from .divergences import Diagnosis, Divergence, Judged, LastMove, Place, refusal_text
-from .engines import RULES, Engine, Stand, engine_of
-from .errors import BadLine, Garbled
+from .ages import Histories, PairAges
+from .divergences import Diagnosis, Divergence, Judged, LastMove, LogPosition, refusal_text
+from .engines import RULES, Engine, Stand, base_of, engine_of
+from .errors import BadLine, Ended, Garbled
 from .files import WholeFile
 from .library import MOVES
+from .liveness import Waiting, longest
+from .log_inputs import Flaw, Input, opened_input
 from .log_lines import Log, shown, spelled
+from .log_places import where
+from .log_running import OnNote, Repeated, Running
+from .log_times import time_of
 from .move_tallies import STALE, WRONG, MoveTallies, MoveTally
 from .name_files import write_names
 from .numbers import MOST_NODES
@@ -50,6 +55,11 @@ class Conformance:
     `stale_moves` followed it, but the machine refused them. `tallies` has the nodes and rules with such moves
     or divergences, if the judge went on after a divergence. `ages` has the pairs of nodes with stale reads, if
     it judged by views.
+
+    `bad_lines` counts the lines that were passed over, `twice` the links that both ends logged, `crossed` the
+    pointers across a removed link, and `stuck` the waits that were too long; `cut_line` is the number of a
+    last line that is cut, or 0. `waiting` are the enabled nodes of a log that was judged to its end, at most
+    ten, with the longest wait first.
     """
 
     rules: str
@@ -68,10 +78,16 @@ class Conformance:
     stale_moves: int = 0
     tallies: tuple[MoveTally, ...] = ()
     ages: tuple[PairAges, ...] = ()
+    bad_lines: int = 0
+    twice: int = 0
+    crossed: int = 0
+    stuck: int = 0
+    cut_line: int = 0
+    waiting: tuple[Waiting, ...] = ()
 
     @property
     def is_accepted(self) -> bool:
-        return not self.divergences
+        return not self.divergences and not self.bad_lines
 
     def __bool__(self) -> bool:
         return self.is_accepted
@@ -85,9 +101,9 @@ class Named:
             raise BadLine(
                 number, 'a log begins with {"nodes": ["a", "b", ..], "capacity": N}' + f", not {spelled(head)}"
             )
-        odd = next((key for key in head if key not in ("nodes", "capacity", *log_lines.FREE)), None)
+        odd = next((key for key in head if key not in ("nodes", "capacity", "absent", *log_lines.FREE)), None)
         if odd is not None and not ignores_extra:
-            raise BadLine(number, f"the first line has nodes and capacity, and no key {spelled(odd)}")
+            raise BadLine(number, f"the first line has nodes, capacity and absent, and no key {spelled(odd)}")
         nodes = head["nodes"]
         if not isinstance(nodes, (list, tuple)):
             raise BadLine(number, f"nodes is a list of names, and not {spelled(nodes)}")
@@ -104,6 +120,21 @@ class Named:
             )
         for name in nodes:
             self.add(number, name)
+        self.present = self.present_ones(number, head.get("absent", ()))
+
+    def present_ones(self, number: int, absent: Any) -> list[int]:
+        """The nodes that are there at the start, ascending. Raises `BadLine`."""
+        if not isinstance(absent, (list, tuple)):
+            raise BadLine(number, f"absent is a list of names, and not {spelled(absent)}")
+        gone: set[int] = set()
+        for name in absent:
+            found = self.numbers.get(name) if type(name) in (str, int) else None
+            if not found:
+                raise BadLine(number, f"a name in absent is one of nodes, and not {spelled(name)}")
+            if found in gone:
+                raise BadLine(number, f"absent names {shown(name)} twice")
+            gone.add(found)
+        return [node for node in range(1, len(self.all) + 1) if node not in gone]
 
     def add(self, number: int, name: Any) -> int:
         """Gives a new name the next number. Raises `BadLine`."""
@@ -158,7 +189,9 @@ class LogJudge:
         age: int = AGE,
         ignore_extra: bool = False,
         keeps: bool = False,
+        stuck: Optional[float] = None,
         on_divergence: Optional[Callable[[Divergence], object]] = None,
+        on_note: OnNote = None,
         program: Program = None,
         engine: Optional[str] = None,
     ) -> None:
@@ -194,13 +227,38 @@ class LogJudge:
         self.dangling: dict[int, int] = {}
         # the last move of each node with a view, and its line and view
         self.last_seen: dict[int, LastMove] = {}
+        self.running = Running(stuck, on_note, self.shown)
 
     def take(self, block: log_lines.Block) -> None:
-        """Judges the next lines, until a divergence ends the judging. Raises `BadLine`."""
+        """Judges the next lines, until a divergence ends the judging. Raises `BadLine`, unless it goes on."""
+        lines = iter(block)
+        self.running.arrive()
+        while not self.is_over:
+            try:
+                self.take_lines(lines)
+                break
+            except Repeated:
+                pass
+            except BadLine as bad:
+                if not self.goes_on():
+                    raise
+                self.running.pass_over(bad)
+        if self.running.waits:
+            self.running.waits.settle()
+
+    def goes_on(self) -> bool:
+        """Whether a bad line is passed over."""
+        return self.resync and self.named is not None
+
+    def take_lines(self, lines: Iterator[tuple[int, Any]]) -> None:
         register, edge = log_lines.REGISTER.fullmatch, log_lines.EDGE.fullmatch
-        for number, line in block:
+        running = self.running
+        for number, line in lines:
             if self.is_over:
                 return
+            if running.waits:
+                running.waits.settle()
+            running.here = number, line
             if type(line) is bytes:
                 found = register(line)
                 if found and self.take_register(number, line, found):
@@ -210,7 +268,11 @@ class LogJudge:
                 if found and self.take_edge(number, found):
                     self.events += 1
                     continue
+            elif type(line) is Flaw:
+                running.take_flaw(number, line, self.goes_on())
+                continue
             event = log_lines.value_of(number, line)
+            running.here = number, time_of(event)
             if self.named is None:
                 self.begin(number, event)
                 continue
@@ -257,15 +319,17 @@ class LogJudge:
 
     def begin(self, number: int, head: Any) -> None:
         named = Named(number, head, self.ignore_extra)
-        present = len(named.all)
+        present, count = named.present, len(named.all)
         self.raw = named.raw
-        self.machine = engine_of(self.rules, named.capacity, present, self.keeps, *self.made_of)
-        self.state = State(self.rules, named.capacity, range(1, present + 1))
+        base = base_of(self.rules, named.capacity, present) if len(present) < count else None
+        self.machine = engine_of(self.rules, named.capacity, count, self.keeps, *self.made_of, base)
+        self.state = State(self.rules, named.capacity, present)
         self.named = named
         self.past, self.reader = Histories(named.capacity), ViewReader(self.rules, self.raw)
         self.rule = rule_on_views(self.rules, *self.made_of)
         self.reads = StaleReads(self.state, self.past, self.dangling, self.shown, self.name)
         self.diagnosis = Diagnosis(self.state, self.past, self.reads, self.age, self.shown, self.name)
+        self.running.begin(self.state)
 
     def take_event(self, number: int, event: Any, named: Named) -> None:
         kind = log_lines.kind_of(number, event, self.ignore_extra)
@@ -334,9 +398,11 @@ class LogJudge:
     def edit_numbers(self, number: int, kind: str, numbers: Sequence[int], named: Named) -> None:
         refusal = self.machine.edit(kind, *numbers)
         if refusal:
+            self.running.expect_new(number, kind, numbers)
             names = " and ".join(map(named.shown, numbers))
             raise BadLine(number, f"the machine refuses to {kind} {names}: {refusal_text(refusal)}")
         self.remember(number, kind, numbers)
+        self.running.edited(kind, numbers, self.state)
         getattr(self.state, kind)(*numbers)
         if self.dangling:
             self.take_dangling(kind, numbers)
@@ -366,20 +432,26 @@ class LogJudge:
 
     def fault(self, number: int, seen: Observed, has_pointer: bool, has_flag: bool) -> None:
         """Writes registers. Raises `BadLine` if no fault can write them."""
-        refusal = self.machine.edit("point", seen.node, seen.new) if has_pointer else 0
-        if has_flag and not refusal:
-            refusal = self.machine.edit("flag", seen.node, int(seen.flag))
+        refusal = 0
+        # a flag under `hh` first, which is refused before anything is written
+        for word in ("point", "flag") if self.has_flags else ("flag", "point"):
+            if not refusal and (has_pointer if word == "point" else has_flag):
+                refusal = self.machine.edit(word, seen.node, seen.new if word == "point" else int(seen.flag))
         if refusal:
-            raise BadLine(
-                number, f"the machine refuses this fault ({self.diagnosis.wrote(seen)}): {refusal_text(refusal)}"
-            )
+            crossing = self.running.crossing(number, seen.node, seen.new)
+            why = f"{refusal_text(refusal)}{crossing and '; '}{crossing}"
+            raise BadLine(number, f"the machine refuses this fault ({self.diagnosis.wrote(seen)}): {why}")
         if has_pointer and self.dangling:
             self.dangling.pop(seen.node, None)
-        self.write(number, seen)
+        self.write(number, seen, False)
         self.faults += 1
 
-    def write(self, number: int, seen: Observed) -> None:
+    def write(self, number: int, seen: Observed, moved: bool = True) -> None:
         node, old, new, was, flag, _, _ = seen
+        running = self.running
+        running.registers[node] = running.here
+        if running.waits:
+            running.waits.mark(running.here, (node,), moved)
         if new != old:
             self.state.point(node, new)
         elif flag == was:
@@ -530,8 +602,10 @@ class LogJudge:
                 self.write_as_fault(number, it.seen)
 
     def report(self, number: int, line: Any, judged: Sequence[Judged], refusal: int, bad: Observed) -> None:
-        place = Place(number, self.time, line, self.machine.entry())
+        place = LogPosition(number, self.time, line, self.machine.entry())
         found = self.diagnosis.divergence(place, judged, refusal, self.last_seen)
+        crossing = self.running.crossing(number, bad.node, bad.new) if found.kind == "order" else ""
+        found = replace(found, hint=crossing) if crossing else found
         self.divergences += 1
         self.first = self.first or found
         is_stale = found.kind == "stale" or (found.kind == "order" and found.hint)
@@ -551,9 +625,13 @@ class LogJudge:
     def write_as_fault(self, number: int, seen: Observed) -> None:
         """Writes what was observed as faults; ends the judging if no fault can write it.
 
-        With views a pointer across a link that is gone is remembered, and the machine's is null.
+        With views a pointer across a link that is gone is remembered, and the machine's is null. Without views
+        one across a link that was just removed is left out, as the node's pointer is null by then.
         """
-        node, state, new = seen.node, self.state, seen.new
+        node, state, new, running = seen.node, self.state, seen.new, self.running
+        running.registers[node] = running.here
+        if running.waits:
+            running.waits.mark(running.here, (node,), True)
         self.dangling.pop(node, None)
         if self.views and new and node in state.neighbours and new not in state.neighbours[node]:
             self.dangling[node], new = new, 0
@@ -562,9 +640,11 @@ class LogJudge:
             ("flag", seen.flag != (node in state.flags), int(seen.flag)),
         ):
             refusal = self.machine.edit(word, node, value) if is_new else 0
+            if refusal and (crossing := running.crossing(number, node, seen.new)):
+                return running.tell_crossing(number, crossing)
             if refusal:
                 what = self.diagnosis.wrote(seen)
-                self.stopped = f"line {number}: no fault can write this ({what}): {refusal_text(refusal)}"
+                self.stopped = f"{where(number)}: no fault can write this ({what}): {refusal_text(refusal)}"
                 self.is_over = True
                 return
         state.point(node, new)
@@ -578,6 +658,10 @@ class LogJudge:
     def name(self, number: int) -> Name:
         return self.named.all[number - 1] if self.named else number
 
+    def pause(self) -> Optional[float]:
+        """How many seconds the next line may take before a wait is too long; None for any number."""
+        return self.running.waits.pause() if self.running.waits else None
+
     def taken(self) -> bytes:
         return self.machine.taken() if self.named else b""
 
@@ -585,7 +669,11 @@ class LogJudge:
         """The verdict so far. Raises `BadLine` if there was no first line."""
         if self.named is None:
             raise BadLine(1, 'the log is empty: it begins with {"nodes": ["a", "b", ..], "capacity": N}')
+        running = self.running
+        if not self.is_over:
+            running.end()
         stand = self.machine.status()
+        enabled = self.machine.enabled() if stand.enabled and not self.is_over else {}
         return Conformance(
             self.rules,
             tuple(self.named.all),
@@ -603,6 +691,12 @@ class LogJudge:
             self.stale_moves,
             self.tallies.rows(self.name) if self.resync else (),
             self.reads.table.rows(self.name) if self.views else (),
+            running.bad_lines,
+            running.twice,
+            running.crossed,
+            running.stuck,
+            running.cut_line,
+            longest(enabled, self.state, running.changes, running.waits, self.name),
         )
 
     def close(self) -> None:
@@ -654,14 +748,15 @@ class Transcript:
             write_names(f"{self.file.path}.names", names)
 
 
-def judge_blocks(judge: LogJudge, log: Log, target: Target) -> Conformance:
-    """Judges a log, and writes the transcript as it comes.
+def judge_blocks(judge: LogJudge, log: Input, target: Target) -> Conformance:
+    """Judges a log up to its end or the first divergence, and writes the transcript as it comes.
 
     Raises `BadLine`; the transcript is then written up to the bad line.
     """
     with Transcript(target) as transcript, contextlib.closing(judge):
         try:
-            for block in log_lines.blocks(log):
+            judge.running.is_live = log.is_live
+            for block in log.blocks(judge.pause if judge.running.limit else None):
                 judge.take(block)
                 transcript.write(judge.taken())
                 if judge.is_over:
@@ -683,8 +778,11 @@ def conform(
     views: bool = False,
     age: int = AGE,
     ignore_extra: bool = False,
+    stop: bool = True,
+    stuck: Optional[float] = None,
     transcript: Target = None,
     on_divergence: Optional[Callable[[Divergence], object]] = None,
+    on_note: OnNote = None,
     program: Program = None,
     engine: Optional[str] = None,
 ) -> Conformance:
@@ -692,15 +790,19 @@ def conform(
 
     `log` is given as a transcript to `audit`: a `str` without a line feed, or a `pathlib.Path`, is the path
     of a file; other text, bytes or an open file is its text; anything else yields its lines or its objects,
-    one by one. Judging ends at the first divergence; with `resync` it goes on, after the observed
-    values were written as faults. With `views` it goes on too, and a move with a `saw` diverges only if the
-    rule does not allow it on what its node saw. `age` is how many lines back a stale copy is guessed at if
-    there is no `saw`. With `ignore_extra` keys that the judge does not know are ignored. `on_divergence` is
-    called with each divergence at once. `transcript`, a path or a file open for bytes, receives the machine's
-    transcript; for a path the names go to `PATH.names`.
+    one by one. `merged` makes one log of several. Text may be compressed with gzip. Judging ends at the first
+    divergence; with `resync` it goes on, after the observed values were written as faults, and passes over
+    bad lines. With `views` it goes on too, and a move with a `saw` diverges only if the rule does not allow it
+    on what its node saw. `age` is how many lines back a stale copy is guessed at if there is no `saw`. With
+    `ignore_extra` keys that the judge does not know are ignored. With `stop=False` a pipe is read to its end
+    after the judging, so that its writer can go on.
 
-    Raises `BadLine` for a line that is no event, or that is an edit or a fault which the machine refuses, and
-    `OSError` if the file can't be read.
+    `stuck` is how many seconds a node may be enabled without a move. `on_divergence` is called with each
+    divergence at once, and `on_note` with each `Note`. `transcript`, a path or a file open for bytes, receives
+    the machine's transcript; for a path the names go to `PATH.names`.
+
+    Raises `BadLine` for a line that is no event, or that is an edit or a fault which the machine refuses; with
+    `resync` only if the first line is bad. Raises `OSError` if the file can't be read, or its gzip is damaged.
     """
     judge = LogJudge(
         rules,
@@ -709,8 +811,19 @@ def conform(
         age=age,
         ignore_extra=ignore_extra,
         keeps=transcript is not None,
+        stuck=stuck,
         on_divergence=on_divergence,
+        on_note=on_note,
         program=program,
         engine=engine,
     )
-    return judge_blocks(judge, log, transcript)
+    with opened_input(log) as source:
+        try:
+            found = judge_blocks(judge, source, transcript)
+        except (BadLine, Ended):
+            if not stop:
+                source.drain()
+            raise
+        if not stop:
+            source.drain()
+        return found

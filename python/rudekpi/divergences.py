@@ -10,6 +10,7 @@ from . import rules
 from .ages import Histories
 from .library import REFUSALS
 from .log_lines import cut, spelled
+from .log_places import file_of, line_of
 from .observed_moves import UPDATE, Observed, is_allowed
 from .reasons import Reasons
 from .replies import Name
@@ -26,7 +27,7 @@ LastMove = Tuple[int, Observed, View]
 class Divergence:
     """A move that the rules do not allow.
 
-    `line` is the number of the log's line. `kind` is one of
+    `line` is the number of the log's line, in `file` if several logs are merged. `kind` is one of
 
         rule      the move breaks the rule on what its node saw
         view      no state shows what its node saw
@@ -51,6 +52,7 @@ class Divergence:
     hint: str = ""
     kind: str = "order"
     differences: tuple[Difference, ...] = ()
+    file: str = ""
 
 
 class Judged(NamedTuple):
@@ -61,7 +63,7 @@ class Judged(NamedTuple):
     verdict: int
 
 
-class Place(NamedTuple):
+class LogPosition(NamedTuple):
     """Where a log is: the line's number, time and text, and the machine's last entry."""
 
     line: int
@@ -92,7 +94,9 @@ class Diagnosis:
         refused = (it for it in judged if not is_allowed(self.state, it.seen))
         return next(wrong, None) or next(refused, None)
 
-    def divergence(self, at: Place, judged: Sequence[Judged], refusal: int, last: Mapping[int, LastMove]) -> Divergence:
+    def divergence(
+        self, at: LogPosition, judged: Sequence[Judged], refusal: int, last: Mapping[int, LastMove]
+    ) -> Divergence:
         """What is wrong with moves that the machine refuses, or that are wrong on their views."""
         found = self.bad_of(judged)
         # none if the only fault is that several move at once
@@ -110,7 +114,7 @@ class Diagnosis:
         if found and not found.view:
             hint = StaleHints(self.state, self.past, self.age, self.shown).hint(at.line, bad)
         return Divergence(
-            at.line,
+            line_of(at.line),
             self.name(node),
             self.wrote(bad),
             rule,
@@ -122,16 +126,17 @@ class Diagnosis:
             hint,
             "stale" if differences else "order" if found else "together",
             differences,
+            file_of(at.line),
         )
 
-    def wrong_on_view(self, at: Place, bad: Judged, view: View, last: Optional[LastMove]) -> Divergence:
+    def wrong_on_view(self, at: LogPosition, bad: Judged, view: View, last: Optional[LastMove]) -> Divergence:
         seen, words = bad.seen, self.words_of_views
         star = words.reasons(seen, view)
         rule = rules.rule_at(star.state, seen.node) if bad.verdict == 0 else None
         numbers = rules.targets(star.state, seen.node, rule) if rule else []
         twice = (last[0], last[1]) if last and last[2].records == view.records else None
         return Divergence(
-            at.line,
+            line_of(at.line),
             self.name(seen.node),
             self.wrote(seen),
             rule,
@@ -143,6 +148,7 @@ class Diagnosis:
             words.hint(seen, view, twice) if bad.verdict == 0 else "",
             "view" if bad.verdict < 0 else "rule",
             self.reads.differences(at.line, at.time, seen.node, view),
+            file_of(at.line),
         )
 
     def why(self, words: Reasons, bad: Observed) -> str:

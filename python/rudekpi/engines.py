@@ -67,8 +67,10 @@ class Engine(Protocol):
 class OfLibrary:
     """A session of the library, called without the slower types of `Network`."""
 
-    def __init__(self, library: Library, rules: str, count: int, present: int, keeps: bool) -> None:
-        self.library, self.session = library, Direct(library, Names(count), rules, present, True)
+    def __init__(
+        self, library: Library, rules: str, count: int, present: int, keeps: bool, base: Optional[bytes] = None
+    ) -> None:
+        self.library, self.session = library, Direct(library, Names(count), rules, present, True, base)
         self.at, self.count, self.place = self.session.at, count, 0
         told, items, row = ((ctypes.c_uint32 * 8)(), (ctypes.c_uint32 * 2)(), (ctypes.c_uint32 * ROW_NUMBERS)())
         self.told_at, self.items_at, self.row_at = map(ctypes.byref, (told, items, row))
@@ -136,8 +138,11 @@ class OfLibrary:
 class OfProgram:
     """A run of the program, asked one command after another."""
 
-    def __init__(self, program: Program, rules: str, count: int, present: int) -> None:
-        self.net = Network(rules, count, present=present, program=program, engine="program")
+    def __init__(self, program: Program, rules: str, count: int, present: int, base: Optional[bytes] = None) -> None:
+        if base is None:
+            self.net = Network(rules, count, present=present, program=program, engine="program")
+        else:
+            self.net = Network.resume(base, program=program, engine="program")
         self.place = 0
 
     def edit(self, word: str, *numbers: int) -> int:
@@ -178,11 +183,23 @@ class OfProgram:
         self.net.close()
 
 
+def base_of(rules: str, count: int, present: Sequence[int]) -> bytes:
+    """The base of a network in which these nodes are present, ascending, without links."""
+    nodes = "".join(f"node {node} - 0\n" for node in present)
+    return f"matching2 {rules} {count}\nbase 0 spent=0 nodes={len(present)} edges=0\n{nodes}".encode()
+
+
 def engine_of(
-    rules: str, count: int, present: int, keeps: bool, program: Program = None, engine: Optional[str] = None
+    rules: str,
+    count: int,
+    present: int,
+    keeps: bool,
+    program: Program = None,
+    engine: Optional[str] = None,
+    base: Optional[bytes] = None,
 ) -> Engine:
-    """A run of a new network; the library makes a transcript only if `keeps`."""
+    """A run of a new network, or from a base; the library makes a transcript only if `keeps`."""
     library = chosen(engine, program)
     if library:
-        return OfLibrary(library, rules, count, present, keeps)
-    return OfProgram(program, rules, count, present)
+        return OfLibrary(library, rules, count, present, keeps, base)
+    return OfProgram(program, rules, count, present, base)

@@ -8,6 +8,8 @@ from __future__ import annotations
 import re
 from dataclasses import dataclass
 
+from .log_places import file_of, line_of, where
+
 VERDICT = re.compile(r"line ([0-9]+): (.*)\n")
 
 
@@ -115,17 +117,21 @@ class Damaged(RudekpiError):
 
 @dataclass(init=False, repr=False, eq=False)
 class BadLine(RudekpiError, ValueError):
-    """A line of a log is no event, or an event that the machine refuses: the line's number, and why."""
+    """A line of a log is no event, or an event that the machine refuses: the line's number, and why.
+
+    `file` is the line's file if several logs are merged, and else empty.
+    """
 
     line: int
     why: str
+    file: str
 
-    def __init__(self, line: int, why: str) -> None:
-        super().__init__(f"line {line}: {why}")
-        self.line, self.why = line, why
+    def __init__(self, line: int, why: str, file: str = "") -> None:
+        super().__init__(f"{where(line, file)}: {why}")
+        self.line, self.why, self.file = line_of(line), why, file or file_of(line)
 
     def __reduce__(self) -> tuple[object, ...]:
-        return type(self), (self.line, self.why)
+        return type(self), (self.line, self.why, self.file)
 
 
 class BadView(RudekpiError, ValueError):

@@ -5,22 +5,26 @@ from __future__ import annotations
 import argparse
 import pathlib
 import sys
-from typing import Callable, Optional
+from typing import Callable, Optional, Sequence, Union
 
 from . import log_lines, outputs
 from .ages import csv_text, table_lines
 from .audits import audit
 from .conformance import AGE, Conformance, LogJudge, judge_blocks
 from .divergences import Divergence
-from .errors import Ended
+from .errors import BadLine, Ended
 from .explanations import explain
 from .given import read_whole
+from .liveness import Waiting
+from .log_inputs import Input, opened_input
+from .log_merging import Merged, merged
+from .log_places import where
 from .move_tallies import tally_lines
 from .name_files import names_in, read_names
 from .numbers import counted
 from .replies import Name
 
-DONE, FAILED, BAD_WORDS, FULL, INTERRUPTED = 0, 1, 2, 4, 130
+DONE, FAILED, BAD_WORDS, FULL, STUCK, INTERRUPTED = 0, 1, 2, 4, 5, 130
 # how many rows of a table, and differences of a view, are printed
 LISTED, DIFFERENCES = 20, 12
 # what a divergence is, by its kind
@@ -41,7 +45,7 @@ def say(text: str) -> None:
 
 def divergence_text(found: Divergence) -> str:
     kind = KINDS.get(found.kind, "and the rules do not allow it")
-    lines = [f"line {found.line}: {found.wrote}, {kind}", f"    {found.event}"]
+    lines = [f"{where(found.line, found.file)}: {found.wrote}, {kind}", f"    {found.event}"]
     if found.kind == "stale":
         lines += [f"  {it.text}" for it in found.differences[:DIFFERENCES]]
         more = len(found.differences) - DIFFERENCES
@@ -70,22 +74,57 @@ def views_text(found: Conformance) -> list[str]:
 
 def verdict_text(found: Conformance) -> str:
     moves = ", ".join(f"{count} {rule}" for rule, count in found.moves.items())
-    verdict = "accepted" if found else f"not accepted, {counted(found.divergences, 'divergence')}"
+    wrong = [counted(found.divergences, "divergence")] if found.divergences else []
+    wrong += [counted(found.bad_lines, "bad line")] if found.bad_lines else []
+    verdict = f"not accepted, {', '.join(wrong)}" if wrong else "accepted"
     events = (
         f"{counted(found.events, 'event')}, {counted(found.edits, 'edit')}, {counted(found.faults, 'fault')}, "
         f"{counted(sum(found.moves.values()), 'move')}: {moves}"
     )
     stand = found.stand
-    where = (
+    at_end = (
         f"at the end: {counted(stand.nodes, 'node')}, {counted(stand.edges, 'edge')}, {counted(stand.pairs, 'pair')}, "
         f"{stand.enabled} enabled; spent {stand.spent}, charge {stand.charge}, bound {found.bound}"
     )
     ended = [f"ended: {found.stopped}"] if found.stopped else []
-    return "\n".join([*ended, f"{verdict}: {events}", where, *views_text(found)])
+    rest = [*skipped_lines(found), at_end, *waiting_lines(found), *views_text(found)]
+    return "\n".join([*ended, f"{verdict}: {events}", *rest])
 
 
-def log_of(path: str) -> log_lines.Log:
-    return sys.stdin.buffer if path == "-" else pathlib.Path(path)
+def skipped_lines(found: Conformance) -> list[str]:
+    """What was skipped and is no bad line, in one line or none."""
+    skipped = [counted(found.twice, "link line") + " of the other end"] if found.twice else []
+    skipped += [counted(found.crossed, "pointer") + " across a removed link"] if found.crossed else []
+    return [f"skipped: {', '.join(skipped)}"] if skipped else []
+
+
+def waiting_lines(found: Conformance) -> list[str]:
+    """The nodes that wait longest, and how many more there are."""
+    if not found.waiting:
+        return []
+    more = found.stand.enabled - len(found.waiting)
+    lines = ["enabled without a move, the longest first:", *(f"    {waiting_text(it)}" for it in found.waiting)]
+    return lines + ([f"    and {more} more"] if more > 0 else [])
+
+
+def waiting_text(found: Waiting) -> str:
+    since = "since" if found.is_exact else "at least since"
+    at = "" if found.time is None else f", time {found.time:.15g}"
+    return f"{log_lines.shown(found.node)} by {found.rule}, {since} {where(found.line, found.file)}{at}"
+
+
+def log_of(paths: Sequence[str]) -> Union[log_lines.Log, Merged]:
+    if len(paths) > 1:
+        found = merged(paths)
+        return Merged({**found.logs, "-": sys.stdin.buffer}) if "-" in found.logs else found
+    return sys.stdin.buffer if not paths or paths[0] == "-" else pathlib.Path(paths[0])
+
+
+def seconds(text: str) -> float:
+    found = float(text)
+    if not 0 < found < float("inf"):
+        raise ValueError(text)
+    return found
 
 
 def run_conform(given: argparse.Namespace) -> int:
@@ -94,7 +133,7 @@ def run_conform(given: argparse.Namespace) -> int:
     if given.ages is not None and not given.views:
         raise ValueError("--ages needs --views: without it no ages are counted")
     written = [given.output, outputs.names_file(given.output), given.ages]
-    outputs.refuse_clashes(written, [given.log, given.program])
+    outputs.refuse_clashes(written, [*(given.log or ["-"]), given.program])
     judge = LogJudge(
         given.rules,
         resync=given.resync,
@@ -102,25 +141,42 @@ def run_conform(given: argparse.Namespace) -> int:
         age=given.age,
         ignore_extra=given.ignore_extra,
         keeps=given.output is not None,
+        stuck=given.stuck,
         on_divergence=lambda found: say(divergence_text(found)),
+        on_note=lambda note: say(str(note)),
         program=given.program,
     )
+    with opened_input(log_of(given.log)) as source:
+        try:
+            status = judged(judge, source, given.output, given.ages)
+            if not given.stop:
+                source.drain()
+            return status
+        except KeyboardInterrupt:
+            if judge.so_far is not None:
+                say(verdict_text(judge.so_far))
+            print(f"! cut short after {counted(judge.events, 'event')}", file=sys.stderr)
+            return INTERRUPTED
+
+
+def judged(judge: LogJudge, source: Input, output: Optional[str], ages: Optional[str]) -> int:
+    """Prints the verdict on a log; returns the exit status."""
     try:
-        found = judge_blocks(judge, log_of(given.log), given.output)
-    except KeyboardInterrupt:
-        if judge.so_far is not None:
-            say(verdict_text(judge.so_far))
-        print(f"! cut short after {counted(judge.events, 'event')}", file=sys.stderr)
-        return INTERRUPTED
+        found = judge_blocks(judge, source, output)
+    except BadLine as bad:
+        print(f"! {bad}", file=sys.stderr, flush=True)
+        return BAD_WORDS
     except Ended as ended:
         if ended.status != FULL:
             raise
-        print(f"! {ended.last_line.lstrip('! ')} after {counted(judge.events, 'event')}", file=sys.stderr)
+        print(f"! {ended.last_line.lstrip('! ')} after {counted(judge.events, 'event')}", file=sys.stderr, flush=True)
         return FULL
     say(verdict_text(found))
-    if given.ages is not None:
-        outputs.write(given.ages, csv_text(found.ages, log_lines.shown))
-    return DONE if found else FAILED
+    if ages is not None:
+        outputs.write(ages, csv_text(found.ages, log_lines.shown))
+    if found.divergences:
+        return FAILED
+    return BAD_WORDS if found.bad_lines else STUCK if found.stuck else DONE
 
 
 def read(path: str) -> bytes:
@@ -140,6 +196,7 @@ def names_given(given: argparse.Namespace) -> Optional[list[Name]]:
 
 
 def run_explain(given: argparse.Namespace) -> int:
+    outputs.refuse_clashes([], [given.transcript, given.names])
     transcript = read(given.transcript)
     found = explain(transcript, names=names_given(given), program=given.program)
     if found is None:
@@ -161,15 +218,25 @@ def lines_back(text: str) -> int:
 
 def add_commands(command: Command) -> None:
     conform = command("conform", run_conform, "judges whether the rules allow the moves in the log of your own nodes")
-    conform.add_argument("log", nargs="?", default="-", help="a file of JSON Lines (standard input)")
+    conform.add_argument(
+        "log", nargs="*", help="files of JSON Lines; several are merged by their clocks (standard input)"
+    )
     conform.add_argument("--rules", choices=("hh", "manne"), required=True, help="the rules that your nodes implement")
-    conform.add_argument("--resync", action="store_true", help="goes on after a divergence, taking it for a fault")
+    conform.add_argument(
+        "--resync", action="store_true", help="goes on after a divergence, taking it for a fault, and after bad lines"
+    )
     conform.add_argument("--views", action="store_true", help="judges moves by what their nodes saw, and goes on")
     conform.add_argument("--ages", metavar="FILE", help="a CSV file for the ages of stale reads, with --views")
     conform.add_argument(
         "--age", type=lines_back, default=AGE, metavar="N", help=f"how many lines back stale copies are guessed ({AGE})"
     )
     conform.add_argument("--ignore-extra", action="store_true", help="ignores keys that the judge does not know")
+    conform.add_argument(
+        "--stop", action="store_true", help="ends at the first divergence, also if a pipe has more to read"
+    )
+    conform.add_argument(
+        "--stuck", type=seconds, metavar="SECONDS", help="reports each node that is enabled so long without a move"
+    )
     conform.add_argument("--output", help="a file for the transcript; the names go to FILE.names")
     conform.add_argument("--program", help="the program that plays")
     why = command("explain", run_explain, "explains why audit refuses a transcript")

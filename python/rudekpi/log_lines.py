@@ -3,15 +3,13 @@
 from __future__ import annotations
 
 import difflib
-import io
 import json
 import os
 import re
 from collections import Counter
-from typing import IO, Any, BinaryIO, Iterable, Iterator, List, NoReturn, Tuple, Union, cast
+from typing import IO, Any, Iterable, List, NoReturn, Tuple, Union
 
 from .errors import BadLine
-from .given import encoded, is_file, opened, path_of
 
 # as `Given`, with lines or objects
 Log = Union["os.PathLike[str]", IO[bytes], IO[str], str, bytes, Iterable[Any]]
@@ -74,15 +72,13 @@ PLAIN = json.JSONDecoder(parse_constant=refuse_constant)
 STRICT = json.JSONDecoder(object_pairs_hook=unique, parse_constant=refuse_constant)
 
 
-def why_no_json(line: bytes, error: Exception, is_cut: bool) -> str:
+def why_no_json(line: bytes, error: Exception) -> str:
     if isinstance(error, UnicodeDecodeError):
         if line.startswith(UTF_16):
             return "the log is UTF-16: write it as UTF-8"
         return f"there is the byte 0x{line[error.start]:02x}, which is no UTF-8 there"
     if isinstance(error, RecursionError):
         return "the line is nested too deeply"
-    if is_cut:
-        return "the log ends in the middle of this line"
     if isinstance(error, json.JSONDecodeError):
         return f"this is no JSON: {error.msg[:1].lower()}{error.msg[1:]} at character {error.pos + 1}"
     return str(error)
@@ -94,7 +90,7 @@ def keys_of(made: Any) -> int:
     return (len(made) if type(made) is dict else 0) + sum([keys_of(it) for it in inner if type(it) in (dict, list)])
 
 
-def object_of(number: int, line: bytes, is_last: bool = False) -> Any:
+def object_of(number: int, line: bytes) -> Any:
     """The value of a line that is not blank. Raises `BadLine`."""
     try:
         text = line.decode("utf-8-sig" if number == 1 else "utf-8").strip(" \t\r\n")
@@ -104,56 +100,7 @@ def object_of(number: int, line: bytes, is_last: bool = False) -> Any:
         # a repeated key leaves fewer keys than colons
         return made if keys_of(made) == text.count(":") else STRICT.decode(text)
     except (ValueError, RecursionError) as error:
-        raise BadLine(number, why_no_json(line, error, is_last)) from None
-
-
-def pieces(file: BinaryIO) -> Iterator[bytes]:
-    """The bytes of a file, or of its text, each piece as soon as it can be read."""
-    read = getattr(file, "read1", file.read)
-    while piece := read(PIECE):
-        yield encoded(piece)
-
-
-def blocks_of_pieces(parts: Iterable[bytes]) -> Iterator[Block]:
-    """The lines that end in each piece, with their numbers, without blank ones. Raises `BadLine`."""
-    held: list[bytes] = []
-    number = held_size = 0
-    for piece in parts:
-        first, *lines = piece.split(b"\n")
-        held.append(first)
-        held_size += len(first)
-        if held_size > LONGEST:
-            raise BadLine(number + 1, f"the line has more than {LONGEST} bytes")
-        if lines:
-            *whole, rest = [b"".join(held), *lines]
-            held, held_size = [rest], len(rest)
-            yield [(at, line) for at, line in enumerate(whole, number + 1) if line and not line.isspace()]
-            number += len(whole)
-    rest = b"".join(held)
-    if rest.strip():
-        yield [(number + 1, object_of(number + 1, rest, True))]
-
-
-def file_blocks(path: str) -> Iterator[Block]:
-    with opened(path) as file:
-        yield from blocks_of_pieces(pieces(cast(BinaryIO, file)))
-
-
-def blocks(log: Log) -> Iterator[Block]:
-    """The numbered lines of a log, or their values, in blocks as they come.
-
-    Raises `BadLine` and `OSError`.
-    """
-    path = path_of(log)
-    if path is not None:
-        return file_blocks(path)
-    if isinstance(log, (str, bytes, bytearray, memoryview)):
-        return blocks_of_pieces(pieces(io.BytesIO(encoded(log))))
-    if is_file(log):
-        return blocks_of_pieces(pieces(cast(BinaryIO, log)))
-    if isinstance(log, dict) or not isinstance(log, Iterable):
-        raise TypeError(f"a log is a path, an open file, bytes, text or lines, and not {cut(repr(log))}")
-    return ([pair] for pair in enumerate(log, 1))
+        raise BadLine(number, why_no_json(line, error)) from None
 
 
 def value_of(number: int, line: Any) -> Any:

@@ -11,7 +11,8 @@ from typing import Iterable, Iterator, Mapping, Optional, Sequence, TextIO
 from . import streams
 from .disturbances import FILED, Disturbance
 from .files import is_descriptor, write_whole
-from .rows import EARLIER, PARTNERS, FoundRow, Row, RowFile, lines_of_file, text_of
+from .partners import NAMES as PARTNERS
+from .rows import EARLIER, FoundRow, Row, RowFile, lines_of_file, text_of
 from .simple_graph import Graph
 
 

@@ -6,7 +6,7 @@ import random
 import statistics
 from typing import Sequence
 
-from .rows import PARTNERS
+from .partners import NAMES as PARTNERS
 from .sweeps import Row, natural
 
 HEAD = (

@@ -5,9 +5,9 @@ usage: python/tests/log_fuzz.py [--count N] [--seed S] [--engine library|program
 
 N logs are judged (10,000 by default). A second reading makes a transcript of all that a log claims, with each
 move by the one rule that writes so, and has it audited. A log passes if both find the same first line, and
-agree that it is no event or that the rules do not allow it. Some logs say what the nodes saw; they are judged
-by views too, which changes no bad line. Any other error fails. A log that fails is printed, and the exit status
-is 1.
+agree that it is no event or that the rules do not allow it. A link that both ends log counts once, and a last
+line that is cut does not count. Some logs say what the nodes saw; they are judged by views too, which changes no
+bad line. Any other error fails. A log that fails is printed, and the exit status is 1.
 """
 
 from __future__ import annotations
@@ -28,6 +28,7 @@ sys.path.insert(0, os.path.join(os.path.dirname(os.path.realpath(__file__)), "..
 from rudekpi import BadLine, Damaged, Divergence, audit, conform  # noqa: E402
 
 EXAMPLES = pathlib.Path(__file__).resolve().parents[2] / "examples"
+FREE = {"time", "clock"}
 KEYS = ["nodes", "capacity", "link", "unlink", "join", "leave", "move", "moves", "fault", "pointer", "flag", "time"]
 FREE = {"time", "clock", "extra"}
 MOVE = re.compile(r"([0-9]+):(update|abandon|marry|seduce)(?:>([0-9]+))?")
@@ -128,6 +129,8 @@ class Claims:
         self.pointers: dict[int, Optional[int]] = {}
         self.flags: dict[int, bool] = {}
         self.links: set[frozenset[int]] = set()
+        # the last line that linked or cut two nodes, its word and time, and whether a second one came
+        self.edits: dict[frozenset[int], tuple[int, str, Any, bool]] = {}
 
     def add(self, name: Any) -> None:
         assert type(name) in (str, int) and name != "" and str(name) not in map(str, self.names)
@@ -142,10 +145,23 @@ class Claims:
         self.text.append(f"{len(self.text)} {event} = {reply}")
         self.lines.append((line, kind))
 
-    def edit(self, line: int, kind: str, given: Any) -> None:
+    def repeats(self, line: int, kind: str, ends: frozenset[int], time: Any) -> bool:
+        """Whether a link or a cut comes a second time, a moment after the first."""
+        is_one = len(ends) == 2 and (ends in self.links) == (kind == "link")
+        if not is_one or ends not in self.edits or self.edits[ends][1::2] != (kind, False):
+            return False
+        first, _, then, _ = self.edits[ends]
+        is_near = line - first <= 50 or (are_seconds(time, then) and abs(time - then) <= 1)
+        self.edits[ends] = first, kind, then, is_near
+        return is_near
+
+    def edit(self, line: int, kind: str, given: Any, time: Any) -> None:
         if kind in ("link", "unlink"):
             assert isinstance(given, list) and len(given) == 2
             numbers = [self.number(name) for name in given]
+            if self.repeats(line, kind, frozenset(numbers), time):
+                return
+            self.edits[frozenset(numbers)] = line, kind, time, False
         else:
             if (
                 kind == "join"
@@ -160,6 +176,7 @@ class Claims:
         for link in list(self.links):
             if (kind == "unlink" and link == frozenset(numbers)) or (kind == "leave" and numbers[0] in link):
                 self.links.discard(link)
+                self.edits[link] = line, "unlink", time, False
                 for end in link:
                     if self.pointers.get(end) in link:
                         self.pointers[end] = None
@@ -236,7 +253,20 @@ class Claims:
             if kind == "moves":
                 self.moves(line, event["moves"])
             else:
-                self.edit(line, kind, event[kind])
+                self.edit(line, kind, event[kind], event.get("time"))
+
+
+def are_seconds(*times: Any) -> bool:
+    return all(type(time) in (int, float) for time in times)
+
+
+def is_cut(line: str) -> bool:
+    """Whether no value of JSON begins a line."""
+    try:
+        json.JSONDecoder().raw_decode(line.strip(" \t\r\n"))
+        return False
+    except json.JSONDecodeError:
+        return True
 
 
 def second_verdict(log: bytes, rules: str, engine: str) -> Verdict:
@@ -248,6 +278,8 @@ def second_verdict(log: bytes, rules: str, engine: str) -> Verdict:
             continue
         try:
             text = line.decode("utf-8-sig" if number == 1 else "utf-8")
+            if number > log.count(b"\n") and is_cut(text):
+                break
             event = json.loads(text.strip(" \t\r\n"), object_pairs_hook=once, parse_constant=float.fromhex)
             if claims:
                 claims.take(number, event)
@@ -281,7 +313,11 @@ def fault_of_resync(log: bytes, rules: str, engine: str, first: Verdict) -> list
         conform(log, rules, engine=engine, resync=True, transcript=transcript, on_divergence=told.append)
     except BadLine:
         pass
-    if bool(told) != (first[0] == "diverged") or (told and told[0].line != first[1]):
+    lines = [it.line for it in told]
+    is_right = (
+        first[1] in lines[:1] if first[0] == "diverged" else not lines or (first[0] == "bad" and lines[0] > first[1])
+    )
+    if not is_right:
         return [f"{first}, and with --resync {told[:1]}"]
     try:
         if transcript.getvalue():

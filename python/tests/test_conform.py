@@ -46,6 +46,7 @@ matching hh 5 4
 9 join 5 = ok
 10 link 4 5 = ok
 11 status = nodes=5 edges=4 pairs=1 enabled=2 charge=2 spent=0
+12 enabled = 1:seduce 2:seduce
 """
 MANNE = [
     '{"nodes": ["a", "b", "c"], "capacity": 3}',
@@ -119,7 +120,9 @@ class Verdicts(Timed):
             logs += [text_of(HH).replace(b"\n", b"\n\n"), text_of(HH).replace(b": ", b" :\t")]
             for log in logs:
                 with self.subTest(type(log)):
-                    self.assertEqual(conform(log, "hh"), conform(HH, "hh"))
+                    # the numbers of lines differ if there are blank ones
+                    found, wanted = (dataclasses.replace(conform(it, "hh"), waiting=()) for it in (log, HH))
+                    self.assertEqual(found, wanted)
         none: list[Any] = [3, None, {"nodes": []}]
         for log in none:
             with self.assertRaises(TypeError):
@@ -271,7 +274,6 @@ class BadLines(Timed):
         ('{"lnk": ["a", "d"]}', "'link' may be meant"),
         ('{"link": ["a", "d"], "join": "e"}', "this line has link and join"),
         ('{"nodes": ["e"]}', "nodes are named in the first line"),
-        ('{"link": ["a", "b"]}', "the machine refuses to link a and b: 3 already-linked"),
         ('{"link": ["a", "a"]}', "2 self-loop"),
         ('{"link": ["a"]}', "link has a list of two names"),
         ('{"link": "ab"}', "link has a list of two names"),
@@ -342,7 +344,6 @@ class BadLines(Timed):
         for log, line, why in (
             (b"", 1, "the log is empty"),
             (b"\n \n", 1, "the log is empty"),
-            (whole[:-4], 4, "the log ends in the middle of this line"),
             (whole.decode().encode("utf-16"), 1, "the log is UTF-16"),
             (whole.replace(b'["c", "d"]', b'["c", "\xff"]'), 4, "there is the byte 0xff"),
             (whole + b'{"move": "' + b"a" * (1 << 24), 5, "the line has more than 16777216 bytes"),
@@ -370,7 +371,10 @@ class Command(Timed):
         self.assertEqual(
             self.said("--rules", "hh", log=HH),
             "accepted: 10 events, 5 edits, 1 fault, 4 moves: 2 marry, 1 seduce, 1 abandon\n"
-            "at the end: 5 nodes, 4 edges, 1 pair, 2 enabled; spent 0, charge 2, bound 13\n",
+            "at the end: 5 nodes, 4 edges, 1 pair, 2 enabled; spent 0, charge 2, bound 13\n"
+            "enabled without a move, the longest first:\n"
+            "    a by seduce, at least since line 8, time 7.5\n"
+            "    b by seduce, at least since line 8, time 7.5\n",
         )
         path = os.path.join(self.folder(), "log")
         pathlib.Path(path).write_bytes(text_of([*HH[:6], '{"move": "b", "pointer": null}']))
