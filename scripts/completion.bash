@@ -81,7 +81,7 @@ _rudekpi() {
             case $command,$word in
                 ,*) _rudekpi_words "$(_rudekpi_all)" help --help --version ;;
                 help,*) _rudekpi_words "$(_rudekpi_all)" ;;
-                storm,[!-]* | storm, | sweep,[!-]* | sweep, | compare,[!-]* | compare, | check,[!-]* | check, | json,[!-]* | json, | conform,[!-]* | conform, | explain,[!-]* | explain, | bursts,[!-]* | bursts, | again,[!-]* | again, | page,[!-]* | page,) _rudekpi_files ;;
+                run,[!-]* | run, | audit,[!-]* | audit, | picture,[!-]* | picture, | epochs,[!-]* | epochs, | storm,[!-]* | storm, | sweep,[!-]* | sweep, | compare,[!-]* | compare, | check,[!-]* | check, | json,[!-]* | json, | conform,[!-]* | conform, | explain,[!-]* | explain, | bursts,[!-]* | bursts, | again,[!-]* | again, | page,[!-]* | page,) _rudekpi_files ;;
                 *) _rudekpi_flags "$command" ;;
             esac
             ;;

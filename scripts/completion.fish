@@ -16,10 +16,14 @@ complete -c console -n '__fish_seen_subcommand_from run' -l present -x -d 'how m
 complete -c console -n '__fish_seen_subcommand_from run' -l workers -x -d 'how many workers judge a step'
 complete -c console -n '__fish_seen_subcommand_from run' -l from -r -F -d 'the file of a run to go on with'
 complete -c console -n '__fish_seen_subcommand_from run' -l help -d 'tells of the command'
+complete -c console -n '__fish_seen_subcommand_from run' -F
 complete -c console -n '__fish_seen_subcommand_from audit' -l help -d 'tells of the command'
+complete -c console -n '__fish_seen_subcommand_from audit' -F
 complete -c console -n '__fish_seen_subcommand_from picture' -l entry -x -d 'behind which entry'
 complete -c console -n '__fish_seen_subcommand_from picture' -l help -d 'tells of the command'
+complete -c console -n '__fish_seen_subcommand_from picture' -F
 complete -c console -n '__fish_seen_subcommand_from epochs' -l help -d 'tells of the command'
+complete -c console -n '__fish_seen_subcommand_from epochs' -F
 complete -c console -n '__fish_seen_subcommand_from storm' -l rules -x -a 'hh manne' -d 'the rules'
 complete -c console -n '__fish_seen_subcommand_from storm' -l nodes -x -d 'how many nodes there are'
 complete -c console -n '__fish_seen_subcommand_from storm' -l present -x -d 'how many of them are present at the start'
@@ -56,8 +60,11 @@ complete -c rudekpi -n '__fish_seen_subcommand_from run' -l present -x -d 'how m
 complete -c rudekpi -n '__fish_seen_subcommand_from run' -l workers -x -d 'how many workers judge a step'
 complete -c rudekpi -n '__fish_seen_subcommand_from run' -l from -r -F -d 'the file of a run to go on with'
 complete -c rudekpi -n '__fish_seen_subcommand_from run' -l help -d 'tells of the command'
+complete -c rudekpi -n '__fish_seen_subcommand_from run' -F
 complete -c rudekpi -n '__fish_seen_subcommand_from audit' -l help -d 'tells of the command'
+complete -c rudekpi -n '__fish_seen_subcommand_from audit' -F
 complete -c rudekpi -n '__fish_seen_subcommand_from epochs' -l help -d 'tells of the command'
+complete -c rudekpi -n '__fish_seen_subcommand_from epochs' -F
 complete -c rudekpi -n '__fish_seen_subcommand_from storm' -l rules -x -a 'hh manne' -d 'the rules'
 complete -c rudekpi -n '__fish_seen_subcommand_from storm' -l nodes -x -d 'how many nodes there are'
 complete -c rudekpi -n '__fish_seen_subcommand_from storm' -l present -x -d 'how many of them are present at the start'

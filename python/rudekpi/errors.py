@@ -50,14 +50,24 @@ class Refused(RudekpiError):
 
 
 class Ended(RudekpiError):
-    """The program has ended: its exit status, and its last line on standard error."""
+    """The program has ended: its exit status, and what it wrote last on standard error.
+
+    `last_line` is the first line that begins with `!`, and without one the last line. `reason` is the text of
+    the line after it that says why, without its `!`; empty if there is none.
+    """
 
     def __init__(self, status: int, told: bytes) -> None:
-        self.status, self.last_line = status, text_of(told).rstrip("\n").rpartition("\n")[2]
-        super().__init__(f"the program ended with status {status}: {self.last_line or '(it said nothing)'}")
+        lines = text_of(told).rstrip("\n").split("\n")
+        at = next((place for place, line in enumerate(lines) if line.startswith("!")), len(lines) - 1)
+        why = lines[at + 1] if at + 1 < len(lines) else ""
+        self.status, self.last_line = status, lines[at]
+        self.reason = why[2:] if why.startswith("! ") else ""
+        said = f"{self.last_line} ({self.reason})" if self.reason else self.last_line
+        super().__init__(f"the program ended with status {status}: {said or '(it said nothing)'}")
 
     def __reduce__(self) -> tuple[object, ...]:
-        return type(self), (self.status, self.last_line.encode())
+        told = f"{self.last_line}\n! {self.reason}" if self.reason else self.last_line
+        return type(self), (self.status, told.encode())
 
 
 class Inherited(Ended):

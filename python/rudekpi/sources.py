@@ -19,7 +19,7 @@ from .replies import Name
 
 # the first line of a transcript, or of a base
 HEAD = re.compile(rb"matching2? (hh|manne) [0-9]{1,5}(?: [0-9]{1,5})?\n")
-# the program's last line if it refuses the file that it is to go on from
+# the program's line if it refuses the file that it is to go on from
 REFUSED_FILE = re.compile(r"! .*: line ([0-9]+): (.*)")
 
 
@@ -89,5 +89,6 @@ def refusal_of(ended: Ended) -> Exception:
     if ended.status == 1 and found:
         return Damaged(int(found[1]), found[2])
     if ended.status == 3 and ended.last_line == "! read failed":
-        return OSError(errno.EIO, "the program can't read the transcript")
+        why = f": {ended.reason}" if ended.reason else ""
+        return OSError(errno.EIO, f"the program can't read the transcript{why}")
     return ended

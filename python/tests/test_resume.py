@@ -505,7 +505,10 @@ sys.stdin.read()
             ("exit 0", Ended, "status 0"),
             ("printf 'matching2 manne 5\\n'", Ended, "status 0"),
             ("echo '! out of memory' >&2; exit 4", Ended, "status 4: ! out of memory"),
-            ("echo '! read failed' >&2; exit 3", OSError, "can't read the transcript"),
+            ("printf '! out of memory\\n! more\\n' >&2; exit 4", Ended, r"status 4: ! out of memory \(more\)$"),
+            ("printf 'a\\n! log full\\nb\\n' >&2; exit 4", Ended, "status 4: ! log full$"),
+            ("echo '! read failed' >&2; exit 3", OSError, "can't read the transcript$"),
+            ("printf '! read failed\\n! t: is a folder\\n' >&2; exit 3", OSError, "the transcript: t: is a folder$"),
             (
                 "echo '! /dev/fd/3: line 4: out of order' >&2; exit 1",
                 Damaged,

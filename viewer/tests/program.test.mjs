@@ -51,7 +51,7 @@ function toldOf(words) {
   if (status === 2 && err.startsWith("error: ")) {
     return { status, text: err };
   }
-  return out.startsWith("Runs the script") ? { status, text: out } : { status: null };
+  return out.startsWith("Runs a script") ? { status, text: out } : { status: null };
 }
 
 const WORDS = [
@@ -84,7 +84,8 @@ const WORDS = [
   "--present=0",
   "--rules=",
   "--from=",
-  "y"
+  "y",
+  "/none"
 ];
 
 test("the words of a run are taken, or refused, as the program does", { skip }, () => {
@@ -126,6 +127,13 @@ test("a run goes on from a file, and audits judge files", { skip }, () => {
       byModule(["audit", none], ""), { status: 3, out: "", err: `! read failed\n! ${none}: no such file\n` });
     assert.deepEqual(
       byModule(["run", "--from", none], ""), { status: 3, out: "", err: `! read failed\n! ${none}: no such file\n` });
+    const script = join(folder, "script");
+    writeFileSync(script, more);
+    for (const words of [["run", "--from", file, script], ["run", script, "--from", file, "--workers", "2"],
+      ["run", "--from", file, "-"], [...RUN, script], [...RUN, none], [...RUN, folder], ["audit", folder],
+      [...RUN, `${folder}/a\nb\x7f`], ["run", "--from", none, script], ["run", "--from", file, none]]) {
+      assert.deepEqual(byModule(words, more), ended(PROGRAM, words, more), words.join(" "));
+    }
   } finally {
     rmSync(folder, { recursive: true });
   }

@@ -1,5 +1,5 @@
 -- What the command reads in the usual words.
-use Rattle.cli_args.proofs.Prelude.{◌≡◌, ℕ, ◌≤◌, ◌<◌, true, false, [], ◌∷◌, ◌++◌, ◌==◌, Option, None, Some, refl, sym, ap, ◌∙◌, arith, rules, ◌^◌, IfSome, codes, pos, unwrap_or, list_any, both_true, decimal, IsNumeral, digits_value, ne_eqb, ints, Bor, decimal_is_IsNumeral, digit_from_value, without_minus, Accepts, same_text, accepts, Text, subcommand_of, takes, Accepts-accepts, list_any-map, RuleSet, Hh, Manne, rules_word, Run, Resume, Audit, Picture, Epochs, Names, AreRules, AreWorkers, IsNumber, MatchesTask, ParsesAsTask, console_app, run_words, resume_words, audit_words, picture_words, epochs_words}
+use Rattle.cli_args.proofs.Prelude.{◌≡◌, ℕ, ◌≤◌, ◌<◌, true, false, [], ◌∷◌, ◌++◌, ◌==◌, Option, None, Some, refl, sym, ap, ◌∙◌, arith, rules, ◌^◌, IfSome, codes, pos, unwrap_or, list_any, both_true, decimal, IsNumeral, digits_value, ne_eqb, ints, Bor, decimal_is_IsNumeral, digit_from_value, without_minus, Accepts, same_text, accepts, Text, subcommand_of, takes, Accepts-accepts, list_any-map, RuleSet, Hh, Manne, rules_word, Run, Resume, Audit, Picture, Epochs, Names, AreRules, AreWorkers, IsNumber, MatchesTask, ParsesAsTask, ParsesOnFile, HasInput, ◌≢◌, console_app, run_words, resume_words, audit_file_words, audit_words, picture_words, epochs_file_words, epochs_words}
 use Rattle.clap.specs.declared.builder.value_parser.ValueParser.TheVariants as vp
 use Rattle.clap.proofs.OnLiterals.{clap_on_literals}
 
@@ -191,6 +191,21 @@ audit_found names program = refl
 pub audit_wanted : (program : Text) → ParsesAsTask (audit_words program) Audit
 audit_wanted program names a = (audit_taken names program, audit_found names program)
 
+file_taken : (names : Names) (program file : Text) → takes (console_app names) (audit_file_words program file) ≡ true
+unfolding clap_on_literals
+file_taken names program file = refl
+
+file_found : (names : Names) (program file : Text) → MatchesTask (subcommand_of (console_app names) (audit_file_words program file)) Audit
+unfolding clap_on_literals
+file_found names program file = refl
+
+file_named : (names : Names) (program : Text) (file : Bor Text) → file.now ≢ codes "-" → HasInput (subcommand_of (console_app names) (audit_file_words program file.now)) (Some file)
+unfolding clap_on_literals
+file_named names program file other = (refl, other)
+
+pub audit_file_wanted : (program : Text) (file : Bor Text) → file.now ≢ codes "-" → ParsesOnFile (audit_file_words program file.now) Audit file
+audit_file_wanted program file other = (λ names a. (file_taken names program file.now, file_found names program file.now), λ names a. file_named names program file other)
+
 -- ---- a picture
 
 entry_taken : (names : Names) (program t : Text) → accepts false (vp.Signed (pos 0) (pos 16777216)) t ≡ true
@@ -228,3 +243,18 @@ epochs_found names program = refl
 
 pub epochs_wanted : (program : Text) → ParsesAsTask (epochs_words program) Epochs
 epochs_wanted program names a = (epochs_taken names program, epochs_found names program)
+
+listed_taken : (names : Names) (program file : Text) → takes (console_app names) (epochs_file_words program file) ≡ true
+unfolding clap_on_literals
+listed_taken names program file = refl
+
+listed_found : (names : Names) (program file : Text) → MatchesTask (subcommand_of (console_app names) (epochs_file_words program file)) Epochs
+unfolding clap_on_literals
+listed_found names program file = refl
+
+listed_named : (names : Names) (program : Text) (file : Bor Text) → file.now ≢ codes "-" → HasInput (subcommand_of (console_app names) (epochs_file_words program file.now)) (Some file)
+unfolding clap_on_literals
+listed_named names program file other = (refl, other)
+
+pub epochs_file_wanted : (program : Text) (file : Bor Text) → file.now ≢ codes "-" → ParsesOnFile (epochs_file_words program file.now) Epochs file
+epochs_file_wanted program file other = (λ names a. (listed_taken names program file.now, listed_found names program file.now), λ names a. listed_named names program file other)

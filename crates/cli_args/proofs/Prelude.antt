@@ -7,7 +7,7 @@ pub use Rattle.std.proofs.lemmas.Str.Parse.{digit_from_value}
 pub use Rattle.std.specs.Cmp.Derive.{both_true}
 pub use Rattle.std.specs.Fmt.{decimal}
 pub use Rattle.std.specs.List.{list_any}
-pub use Rattle.std.specs.Prelude.{IfOk, ◌||◌, ◌^◌, MatchOption, codes, IfSome, pos, is_some, unwrap_or, IfErr}
+pub use Rattle.std.specs.Prelude.{IfOk, ◌≢◌, ◌||◌, ◌^◌, MatchOption, codes, IfSome, pos, is_some, unwrap_or, IfErr}
 pub use Rattle.std.specs.Str.Parse.{IsNumeral, digits_value}
 pub use Rattle.std.specs.contracts.prelude.U32FromStr.TheImpl.{ghosts}
 pub use Rattle.clap.proofs.ValueTestLemmas.{Accepts-accepts}
@@ -26,6 +26,6 @@ pub use Rattle.clap.specs.declared.parser.matches.Found.{Found}
 pub use Rattle.rule_machine.specs.Tables.{rules_word}
 pub use Rattle.rule_machine.specs.declared.rules.RuleSet.{RuleSet}
 pub use Rattle.rule_machine.specs.declared.rules.RuleSet.TheVariants.{Hh, Manne}
-pub use Rattle.cli_args.specs.TaskWords.{GivesNumber, MatchesTask, HoldsNothing, HoldsNoRun, HoldsNoStorm, HoldsResume, HoldsResumeStorm, IsLeftOut, IsResumeStormTask, ResumedStorm, WantsResumeStorm, AreRoamers, resume_storm_words, resume_words, resumed_storm_of, usual_resumed_storm, HoldsPicture, HoldsRun, IsNumber, IsStormTask, MayGive, Names, AreRules, AreWorkers, ParsesAsTask, console_app, run_words, audit_words, picture_words, epochs_words, HoldsStorm, Storm, storm_of, ParsesTo, WantsStorm, network_app, roaming_app}
+pub use Rattle.cli_args.specs.TaskWords.{GivesNumber, MatchesTask, HoldsNothing, HoldsNoRun, HoldsNoStorm, HoldsResume, HoldsResumeStorm, IsLeftOut, IsResumeStormTask, ResumedStorm, WantsResumeStorm, AreRoamers, resume_storm_words, resume_words, resumed_storm_of, usual_resumed_storm, HoldsPicture, HoldsRun, IsNumber, IsStormTask, MayGive, Names, AreRules, AreWorkers, ParsesAsTask, console_app, run_words, audit_words, picture_words, epochs_words, HasInput, IsInput, ParsesOnFile, ReadsFrom, audit_file_words, epochs_file_words, HoldsStorm, Storm, storm_of, ParsesTo, WantsStorm, network_app, roaming_app}
 pub use Rattle.cli_args.specs.declared.task.Task.{Task}
 pub use Rattle.cli_args.specs.declared.task.Task.TheVariants.{Run, Resume, Audit, Picture, Epochs, ResumeStorm, Show}

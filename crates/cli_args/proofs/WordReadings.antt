@@ -1,5 +1,5 @@
 -- What the words were read as.
-use Rattle.cli_args.proofs.Prelude.{◌≡◌, List, Option, None, Some, Result, Ok, Err, refl, sym, subst, true, IfErr, MatchOption, App, HasMatchesOf, Row, Text, subcommand_of, subcommand_rows_of, takes, ArgMatches, Error, Task, Run, Resume, Audit, Picture, Epochs, ResumeStorm, Show, Names, AreRules, console_app, MatchesTask, HoldsNothing, IsResumeStormTask, IsStormTask, ParsesTo, ResumedStorm, Storm, ParsesAsTask, WantsResumeStorm, WantsStorm}
+use Rattle.cli_args.proofs.Prelude.{◌≡◌, List, Option, None, Some, Result, Ok, Err, refl, sym, subst, true, IfErr, MatchOption, App, HasMatchesOf, Row, Text, subcommand_of, subcommand_rows_of, takes, ArgMatches, Error, Task, Run, Resume, Audit, Picture, Epochs, ResumeStorm, Show, Names, AreRules, console_app, MatchesTask, HoldsNothing, IsResumeStormTask, IsStormTask, ParsesTo, ResumedStorm, Storm, ParsesAsTask, Bor, HasInput, ReadsFrom, WantsResumeStorm, WantsStorm}
 use Rattle.cli_args.specs.declared.task.Task.TheVariants as variants
 
 -- what a parse found is what the command reads in the words
@@ -23,6 +23,17 @@ answered names words o Epochs a e h = (names, a, subst (λ (z : Option (Text × 
 answered names words o (variants.Storm storm) a e h = (names, a, subst (λ (z : Option (Text × List Row)). MatchesTask z (variants.Storm storm)) e h)
 answered names words o (ResumeStorm storm) a e h = (names, a, subst (λ (z : Option (Text × List Row)). MatchesTask z (ResumeStorm storm)) e h)
 answered names words o (Show text) a e h = absurd (no_text o text h)
+
+-- the file that was read is the one that the words name
+pub file_read : (names : Names) (words : List Text) (o : Option (Text × List Row)) (task : Task) (file : Option (Bor Text)) → AreRules names → o ≡ subcommand_of (console_app names) words → MatchesTask o task → HasInput o file → ReadsFrom words task file
+file_read names words o (Run r n p k) file a e is h = (names, a, subst (λ (z : Option (Text × List Row)). HasInput z file) e h)
+file_read names words o (Resume from k) file a e is h = (names, a, subst (λ (z : Option (Text × List Row)). HasInput z file) e h)
+file_read names words o Audit file a e is h = (names, a, subst (λ (z : Option (Text × List Row)). HasInput z file) e h)
+file_read names words o (Picture entry) file a e is h = (names, a, subst (λ (z : Option (Text × List Row)). HasInput z file) e h)
+file_read names words o Epochs file a e is h = (names, a, subst (λ (z : Option (Text × List Row)). HasInput z file) e h)
+file_read names words o (variants.Storm storm) file a e is h = (names, a, subst (λ (z : Option (Text × List Row)). HasInput z file) e h)
+file_read names words o (ResumeStorm storm) file a e is h = (names, a, subst (λ (z : Option (Text × List Row)). HasInput z file) e h)
+file_read names words o (Show text) file a e is h = absurd (no_text o text is)
 
 -- without a task that was read, none is asked for
 pub unwanted : (names : Names) (words : List Text) (o : Option (Text × List Row)) → AreRules names → o ≡ subcommand_of (console_app names) words → HoldsNothing o → (task : Task) → ParsesAsTask words task → ⊥

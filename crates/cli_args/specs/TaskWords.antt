@@ -1,5 +1,5 @@
 -- The tasks of command line words, by clap's definition of how a command reads words.
-use Rattle.std.specs.Prelude.{◌≡◌, ◌⊎◌, ℕ, ◌<◌, ◌≤◌, ◌^◌, List, [], ◌∷◌, ◌++◌, map, Option, None, Some, pos, Bool, false, true, codes, if◌then◌else◌, nat_le, unwrap_or}
+use Rattle.std.specs.Prelude.{◌≡◌, ◌≢◌, ◌⊎◌, ℕ, ◌<◌, ◌≤◌, ◌^◌, List, [], ◌∷◌, ◌++◌, map, Option, None, Some, pos, Bool, false, true, codes, if◌then◌else◌, nat_le, unwrap_or}
 use Rattle.std.specs.Borrow.{Bor}
 use Rattle.std.specs.Fmt.{decimal}
 use Rattle.std.specs.Str.Parse.{IsNumeral, digits_value, without_leading_plus}
@@ -53,9 +53,17 @@ network_app app required names =
 abbrev pub from_rule : Rule
 from_rule = valued_rule (codes "from")
 
+-- the name of the file that is read in place of standard input; optional, and no option
+abbrev pub file_rule : Rule
+file_rule = record (new_rule (codes "FILE")) { value_names = 1 }
+
 -- the subcommand `run`; its task says which of its arguments go together
 abbrev pub run_app : Names → App
-run_app names = with_rule (network_app (new_app (codes "run")) false names) from_rule
+run_app names = with_rule (with_rule (network_app (new_app (codes "run")) false names) from_rule) file_rule
+
+-- the subcommand `audit` or `epochs`
+abbrev pub filed_app : Text → App
+filed_app name = with_rule (new_app name) file_rule
 
 -- `--entry` and a number from 0 to 16,777,216; optional
 abbrev pub entry_rule : Rule
@@ -63,7 +71,7 @@ entry_rule = record (valued_rule (codes "entry")) { parser = Some (vp.Signed (po
 
 -- the subcommand `picture`
 abbrev pub picture_app : App
-picture_app = with_rule (new_app (codes "picture")) entry_rule
+picture_app = with_rule (with_rule (new_app (codes "picture")) entry_rule) file_rule
 
 -- a command with a version, which requires a subcommand and otherwise shows its help
 abbrev pub top_app : App
@@ -73,7 +81,7 @@ top_app = record (new_app (codes "console")) {
 
 -- the command with `run` and `audit`
 abbrev pub judging_app : Names → App
-judging_app names = with_subcommand (with_subcommand top_app (run_app names).top) (new_app (codes "audit")).top
+judging_app names = with_subcommand (with_subcommand top_app (run_app names).top) (filed_app (codes "audit")).top
 
 -- `--roam` and a number from 0 to 64; 0 by default
 abbrev pub roam_rule : Rule
@@ -97,7 +105,7 @@ storm_app names = roaming_app (with_rule (network_app (new_app (codes "storm")) 
 
 -- the command with `run`, `audit`, `picture` and `epochs`
 abbrev pub showing_app : Names → App
-showing_app names = with_subcommand (with_subcommand (judging_app names) picture_app.top) (new_app (codes "epochs")).top
+showing_app names = with_subcommand (with_subcommand (judging_app names) picture_app.top) (filed_app (codes "epochs")).top
 
 -- the command with all five subcommands
 abbrev pub console_app : Names → App
@@ -232,6 +240,17 @@ HoldsNoRun found = (task : Task) → MatchesTask (Some (codes "run", found)) tas
 abbrev pub HoldsNoStorm : List Row → Type 0
 HoldsNoStorm found = ((storm : Storm) → HoldsStorm found storm → ⊥) × ((storm : ResumedStorm) → HoldsResumeStorm found storm → ⊥)
 
+-- the file that is read in place of standard input; none if no name is given, or the name `-`
+abbrev pub IsInput : Option Text → Option (Bor Text) → Type 0
+IsInput None file = file ≡ None
+IsInput (Some name) None = name ≡ codes "-"
+IsInput (Some name) (Some file) = (name ≡ file.now) × (name ≢ codes "-")
+
+-- the subcommand's values name this file, or none
+abbrev pub HasInput : Option (Text × List Row) → Option (Bor Text) → Type 0
+HasInput None file = file ≡ None
+HasInput (Some p) file = IsInput (first_of (codes "FILE") p.1) file
+
 -- the words are read as the task
 abbrev pub Asks : List Text → Task → Type 0
 Asks words task = (names : Names) × AreRules names × MatchesTask (subcommand_of (console_app names) words) task
@@ -241,10 +260,20 @@ abbrev pub ParsesTo : List Text → Task → Type 0
 ParsesTo words (Show text) = (kind_of text ≡ DisplayHelp) ⊎ (kind_of text ≡ DisplayVersion)
 ParsesTo words task = Asks words task
 
+-- the file that the words name for the task, or none; the help and the version read nothing
+abbrev pub ReadsFrom : List Text → Task → Option (Bor Text) → Type 0
+ReadsFrom words (Show text) file = file ≡ None
+ReadsFrom words task file = (names : Names) × AreRules names × HasInput (subcommand_of (console_app names) words) file
+
 -- The words are good, and are read as this task. `usual_words` proves it of the usual words of each task.
 abbrev pub ParsesAsTask : List Text → Task → Type 0
 ParsesAsTask words task =
     (names : Names) → AreRules names → (takes (console_app names) words ≡ true) × MatchesTask (subcommand_of (console_app names) words) task
+
+-- the words are good, and are read as this task on this file
+abbrev pub ParsesOnFile : List Text → Task → Bor Text → Type 0
+ParsesOnFile words task file =
+    ParsesAsTask words task × ((names : Names) → AreRules names → HasInput (subcommand_of (console_app names) words) (Some file))
 
 -- the words are good, and are read as this storm
 abbrev pub WantsStorm : List Text → Storm → Type 0
@@ -316,6 +345,10 @@ usual_resumed_storm from workers roam script = record {
 abbrev pub audit_words : Text → List Text
 audit_words program = program ∷ codes "audit" ∷ []
 
+-- the words for an audit of a file
+abbrev pub audit_file_words : Text → Text → List Text
+audit_file_words program file = program ∷ codes "audit" ∷ codes "--" ∷ file ∷ []
+
 -- the words for a picture
 abbrev pub picture_words : Text → Option ℕ → List Text
 picture_words program None = program ∷ codes "picture" ∷ []
@@ -324,3 +357,7 @@ picture_words program (Some entry) = program ∷ codes "picture" ∷ (codes "--e
 -- the words for the epochs
 abbrev pub epochs_words : Text → List Text
 epochs_words program = program ∷ codes "epochs" ∷ []
+
+-- the words for the epochs of a file's transcript
+abbrev pub epochs_file_words : Text → Text → List Text
+epochs_file_words program file = program ∷ codes "epochs" ∷ codes "--" ∷ file ∷ []

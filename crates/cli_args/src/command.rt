@@ -3,13 +3,13 @@
 ghost use Rattle.std.specs.Prelude.{◌≡◌, false, IfOk, codes};
 ghost use Rattle.clap.specs.Words.{app_of, new_app, rule_of};
 ghost use Rattle.clap.specs.declared.builder.command.Command.TheViews.{out-Command as fields_of};
-ghost use Rattle.cli_args.specs.TaskWords.{AreRules, Names, console_app, entry_rule, from_rule, judging_app, network_app, nodes_rule, picture_app, present_rule, roam_rule, roaming_app, rules_rule, run_app, script_rule, showing_app, storm_app, top_app, turns_rule, valued_rule, workers_rule};
+ghost use Rattle.cli_args.specs.TaskWords.{AreRules, Names, console_app, entry_rule, file_rule, filed_app, from_rule, judging_app, network_app, nodes_rule, picture_app, present_rule, roam_rule, roaming_app, rules_rule, run_app, script_rule, showing_app, storm_app, top_app, turns_rule, valued_rule, workers_rule};
 
 use crate::help::{
     ABOUT, AUDIT_ABOUT, AUDIT_NOTES, AUDIT_USAGE, ENTRY_HELP, EPOCHS_ABOUT, EPOCHS_NOTES,
-    EPOCHS_USAGE, EXAMPLES, FROM_HELP, NODES_HELP, PICTURE_ABOUT, PICTURE_NOTES, PICTURE_USAGE,
-    PRESENT_HELP, ROAM_HELP, RULES_HELP, RUN_ABOUT, RUN_NOTES, RUN_USAGE, STORM_ABOUT, STORM_NOTES,
-    STORM_USAGE, TURNS_HELP, WORKERS_HELP,
+    EPOCHS_USAGE, EXAMPLES, FILE_HELP, FROM_HELP, NODES_HELP, PICTURE_ABOUT, PICTURE_NOTES,
+    PICTURE_USAGE, PRESENT_HELP, ROAM_HELP, RULES_HELP, RUN_ABOUT, RUN_NOTES, RUN_USAGE,
+    SCRIPT_HELP, STORM_ABOUT, STORM_NOTES, STORM_USAGE, TURNS_HELP, WORKERS_HELP,
 };
 use clap::{Arg, Command, value_parser};
 use std::alloc::{AllocError, Global};
@@ -67,6 +67,13 @@ fn from_arg<'a>(alloc: Global) -> Arg<'a>
     valued_arg(alloc, "from", "FILE", FROM_HELP)
 }
 
+fn file_arg<'a>(alloc: Global, value: &'a str, help: &'a str) -> Arg<'a>
+    ensures rule { rule_of result ≡ file_rule }
+    ensures local { result.global ≡ false }
+{
+    Arg::new(alloc, "FILE").value_name(value).help(help)
+}
+
 fn told_command<'a>(alloc: Global, name: &'a str, about: &'a str, notes: &'a str) -> Command<'a>
     ensures app { app_of result ≡ new_app name.entry.now }
     ensures local { (fields_of result).has_globals ≡ false }
@@ -109,7 +116,22 @@ fn run_command<'a>(alloc: Global, names: &'a [&'a str]) -> Result<Command<'a>, A
     ensures local { IfOk result (λ run. (fields_of run).has_globals ≡ false) }
 {
     let run = reading_command(alloc, "run", RUN_ABOUT, RUN_NOTES, RUN_USAGE);
-    network_command(alloc, run, false, names)?.arg(from_arg(alloc))
+    network_command(alloc, run, false, names)?
+        .arg(from_arg(alloc))?
+        .arg(file_arg(alloc, "SCRIPT", SCRIPT_HELP))
+}
+
+fn filed_command<'a>(
+    alloc: Global,
+    name: &'a str,
+    about: &'a str,
+    notes: &'a str,
+    usage: &'a str,
+) -> Result<Command<'a>, AllocError>
+    ensures app { IfOk result (λ filed. app_of filed ≡ filed_app name.entry.now) }
+    ensures local { IfOk result (λ filed. (fields_of filed).has_globals ≡ false) }
+{
+    reading_command(alloc, name, about, notes, usage).arg(file_arg(alloc, "FILE", FILE_HELP))
 }
 
 fn entry_arg<'a>(alloc: Global) -> Arg<'a>
@@ -132,7 +154,8 @@ fn picture_command<'a>(alloc: Global) -> Result<Command<'a>, AllocError>
         PICTURE_NOTES,
         PICTURE_USAGE,
     )
-    .arg(entry_arg(alloc))
+    .arg(entry_arg(alloc))?
+    .arg(file_arg(alloc, "FILE", FILE_HELP))
 }
 
 fn roam_arg<'a>(alloc: Global) -> Arg<'a>
@@ -199,7 +222,7 @@ fn judging_command<'a>(alloc: Global, names: &'a [&'a str]) -> Result<Command<'a
 {
     top_command(alloc)
         .subcommand(run_command(alloc, names)?)?
-        .subcommand(reading_command(alloc, "audit", AUDIT_ABOUT, AUDIT_NOTES, AUDIT_USAGE))
+        .subcommand(filed_command(alloc, "audit", AUDIT_ABOUT, AUDIT_NOTES, AUDIT_USAGE)?)
 }
 
 fn showing_command<'a>(alloc: Global, names: &'a [&'a str]) -> Result<Command<'a>, AllocError>
@@ -207,17 +230,17 @@ fn showing_command<'a>(alloc: Global, names: &'a [&'a str]) -> Result<Command<'a
 {
     judging_command(alloc, names)?
         .subcommand(picture_command(alloc)?)?
-        .subcommand(reading_command(alloc, "epochs", EPOCHS_ABOUT, EPOCHS_NOTES, EPOCHS_USAGE))
+        .subcommand(filed_command(alloc, "epochs", EPOCHS_ABOUT, EPOCHS_NOTES, EPOCHS_USAGE)?)
 }
 
 /// The command with all subcommands.
 ///
 /// | Subcommand | Arguments |
 /// |---|---|
-/// | `run` | `--rules`, `--nodes`, `--present`, `--workers`, `--from` |
-/// | `audit`, `epochs` | none |
-/// | `picture` | `--entry` |
-/// | `storm` | those of `run`, `--roam`, `--turns`, and scripts |
+/// | `run` | `--rules`, `--nodes`, `--present`, `--workers`, `--from`, and a file |
+/// | `audit`, `epochs` | a file |
+/// | `picture` | `--entry`, and a file |
+/// | `storm` | the options of `run`, `--roam`, `--turns`, and scripts |
 ///
 /// All arguments of `run` are optional here, also in `storm`; `strict_command` has the rules between them.
 pub(crate) fn command<'a>(alloc: Global) -> Result<Command<'a>, AllocError>
@@ -236,7 +259,9 @@ fn strict_from<'a>(alloc: Global) -> Result<Arg<'a>, AllocError> {
 
 fn strict_run<'a>(alloc: Global, required: bool) -> Result<Command<'a>, AllocError> {
     let run = told_command(alloc, "run", RUN_ABOUT, RUN_NOTES);
-    network_command(alloc, run, required, RULES.as_slice())?.arg(strict_from(alloc)?)
+    network_command(alloc, run, required, RULES.as_slice())?
+        .arg(strict_from(alloc)?)?
+        .arg(file_arg(alloc, "SCRIPT", SCRIPT_HELP))
 }
 
 fn strict_storm<'a>(alloc: Global, required: bool) -> Result<Command<'a>, AllocError> {

@@ -20,19 +20,23 @@ pub(crate) const TURNS_HELP: &str = "Turns of each of them; at most 1000000";
 
 pub(crate) const ENTRY_HELP: &str = "Draws the state after entry K; 0 the start; default: the end";
 
+pub(crate) const SCRIPT_HELP: &str = "The file of the script; default: -, standard input";
+
+pub(crate) const FILE_HELP: &str = "The file of the transcript; default: -, standard input";
+
 pub(crate) const EXAMPLES: &str = "\
 Examples:
-  console run --rules hh --nodes 4 < script > transcript
-  console audit < transcript
-  console picture < transcript > matching.dot
+  console run --rules hh --nodes 4 script > transcript
+  console audit transcript
+  console picture transcript > matching.dot
   console storm --rules manne --nodes 4 --roam 2 script other > transcript
   console help run";
 
-pub(crate) const RUN_ABOUT: &str = "Runs the script on standard input and writes its transcript.";
+pub(crate) const RUN_ABOUT: &str = "Runs a script and writes its transcript.";
 
 pub(crate) const RUN_USAGE: &str = "\
-console run [OPTIONS] --rules <RULES> --nodes <N>
-       console run [OPTIONS] --from <FILE>";
+console run [OPTIONS] --rules <RULES> --nodes <N> [SCRIPT]
+       console run [OPTIONS] --from <FILE> [SCRIPT]";
 
 pub(crate) const RUN_NOTES: &str = "\
 Under hh one enabled node moves in a step, under manne any set of them. The
@@ -60,22 +64,22 @@ Commands of a script, one per line; A and B are names of nodes:
   checkpoint    writes the state as a base, from which a transcript may begin
 
 Examples:
-  console run --rules manne --nodes 4 < script > transcript
-  console run --rules manne --nodes 60000 --workers 4 < script > transcript
-  console run --rules hh --nodes 9 --present 4 < script > transcript
+  console run --rules manne --nodes 4 script > transcript
+  console run --rules manne --nodes 60000 --workers 4 script > transcript
+  console run --rules hh --nodes 9 --present 4 script > transcript
   printf 'link 1 2\\nstep 1\\nstep 2\\n' | console run --rules hh --nodes 2
-  console run --from transcript < more > rest; cat transcript rest > whole
+  console run --from transcript more > rest; cat transcript rest > whole
 
 Exit status:
   0  the whole script was run
   1  the transcript of --from is refused
   2  bad words, a P above N (! bad present), or a line that is not a command
-  3  a read or a write failed, or FILE cannot be opened
+  3  a read or a write failed, or a file cannot be opened
   4  memory ran out, or the log is full";
 
-pub(crate) const AUDIT_ABOUT: &str = "Judges the transcript on standard input and prints one line.";
+pub(crate) const AUDIT_ABOUT: &str = "Judges a transcript and prints one line.";
 
-pub(crate) const AUDIT_USAGE: &str = "console audit < FILE";
+pub(crate) const AUDIT_USAGE: &str = "console audit [FILE]";
 
 pub(crate) const AUDIT_NOTES: &str = "\
 The transcript is accepted if it is the text of a run of the rules, with any
@@ -84,55 +88,55 @@ base must be that of the state reached. Otherwise the first wrong line is named,
 with the first of these that is wrong: its form, its number, its reply.
 
 Examples:
-  console audit < transcript
-  console run --rules hh --nodes 4 < script | console audit
+  console audit transcript
+  console run --rules hh --nodes 4 script | console audit
 
 Exit status:
   0  accepted
   1  refused
   2  bad words
-  3  a read or a write failed
+  3  a read or a write failed, or FILE cannot be opened
   4  memory ran out";
 
 pub(crate) const PICTURE_ABOUT: &str =
     "Draws the network that a transcript leads to, for Graphviz.";
 
-pub(crate) const PICTURE_USAGE: &str = "console picture [OPTIONS] < FILE";
+pub(crate) const PICTURE_USAGE: &str = "console picture [OPTIONS] [FILE]";
 
 pub(crate) const PICTURE_NOTES: &str = "\
-The transcript is read from standard input, up to the line of entry K. The graph
-has a line for each node and each edge, ascending. A married node is filled, and
-an enabled node has its rule below its name. A pair is a bold edge; a pointer
-that is not answered is an arrow along its edge. If audit refuses a line up to
-entry K, its verdict is printed and no graph. If the transcript begins with a
-base, K is at least the base's number, which draws the base.
+The transcript is judged up to the line of entry K. The graph has a line for
+each node and each edge, ascending. A married node is filled, and an enabled
+node has its rule below its name. A pair is a bold edge; a pointer that is not
+answered is an arrow along its edge. If audit refuses a line up to entry K, its
+verdict is printed and no graph. If the transcript begins with a base, K is at
+least the base's number, which draws the base.
 
 Examples:
-  console picture < transcript | dot -Tsvg > matching.svg
-  console picture --entry 0 < transcript
-  diff <(console picture --entry 5 < transcript) <(console picture < transcript)
+  console picture transcript | dot -Tsvg > matching.svg
+  console picture --entry 0 transcript
+  diff <(console picture --entry 5 transcript) <(console picture transcript)
 
 For many nodes another engine of Graphviz is faster:
-  console picture < transcript | dot -Ksfdp -Tsvg > matching.svg
+  console picture transcript | dot -Ksfdp -Tsvg > matching.svg
 
 To watch a long run and to draw where it ended:
-  console run --rules hh --nodes 9 < script | tee transcript
-  console picture < transcript > matching.dot
+  console run --rules hh --nodes 9 script | tee transcript
+  console picture transcript > matching.dot
 
 Exit status:
   0  drawn
   1  the transcript is refused
   2  bad words, or there is no entry K
-  3  a read or a write failed
+  3  a read or a write failed, or FILE cannot be opened
   4  memory ran out";
 
 pub(crate) const EPOCHS_ABOUT: &str = "Lists the epochs of a transcript, one per line.";
 
-pub(crate) const EPOCHS_USAGE: &str = "console epochs < FILE";
+pub(crate) const EPOCHS_USAGE: &str = "console epochs [FILE]";
 
 pub(crate) const EPOCHS_NOTES: &str = "\
-The transcript is read from standard input. An epoch begins at the start and at
-each accepted disturbance. Its line has these fields:
+An epoch begins at the start and at each accepted disturbance. Its line has
+these fields:
   start  the entry that began it, 0 for the start; - if it began before the base
          at the transcript's start
   moves  its moves
@@ -144,14 +148,14 @@ ended before the network was silent. A transcript that audit refuses is refused
 in the same words.
 
 Examples:
-  console epochs < transcript > epochs.csv
-  console run --rules hh --nodes 9 < script | tee transcript | console epochs
+  console epochs transcript > epochs.csv
+  console run --rules hh --nodes 9 script | tee transcript | console epochs
 
 Exit status:
   0  listed
   1  the transcript is refused
   2  bad words
-  3  a read or a write failed
+  3  a read or a write failed, or FILE cannot be opened
   4  memory ran out";
 
 pub(crate) const STORM_ABOUT: &str =

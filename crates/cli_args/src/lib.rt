@@ -7,7 +7,7 @@
 //! Since clap's contracts are wide and costly to prove, this is a crate of its own.
 //!
 //! ```rust
-//! match read_words(alloc, &words)? {                // the first word is the program's name
+//! match read_words(alloc, &words)?.task {           // the first word is the program's name
 //!     Task::Run { rules, nodes, present, workers } => ..,
 //!     Task::Audit => ..,
 //!     _ => ..,
@@ -23,4 +23,4 @@ mod words;
 
 pub use storm::{ResumeStormWords, StormWords};
 pub use task::{Task, present_at_start};
-pub use words::{read_words, usual_words};
+pub use words::{Request, read_words, usual_words};

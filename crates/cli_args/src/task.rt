@@ -5,7 +5,7 @@ ghost use Rattle.clap.specs.Words.{first_of, found_of, kind_of, rows_of, subcomm
 ghost use Rattle.clap.specs.declared.error.kind.ErrorKind.TheVariants.{OutOfMemory};
 ghost use Rattle.rule_machine.specs.declared.rules.RuleSet.{RuleSet};
 ghost use Rattle.rule_machine.specs.Tables.{rules_word};
-ghost use Rattle.cli_args.specs.TaskWords.{GivesNumber, HoldsPicture, HoldsNoRun, HoldsRun, IsLeftOut, MatchesTask, HoldsNothing, present_at_start};
+ghost use Rattle.cli_args.specs.TaskWords.{GivesNumber, HoldsPicture, HasInput, HoldsNoRun, HoldsRun, IsInput, IsLeftOut, MatchesTask, HoldsNothing, present_at_start};
 
 use crate::storm::{ResumeStormWords, StormWords, storm_task};
 use clap::{ArgMatches, Error};
@@ -176,6 +176,35 @@ pub(crate) fn asked<'a>(alloc: Global, found: &ArgMatches<'a>) -> Result<Option<
         return storm_task(alloc, inner);
     }
     Ok(None)
+}
+
+fn unless_dash(name: &str) -> Option<&str>
+    ensures { IsInput (Some name.now) result }
+{
+    if name == "-" {
+        return None;
+    }
+    Some(name)
+}
+
+// `None` if no file is named, or `-`.
+fn input_named<'a>(found: &ArgMatches<'a>) -> Option<&'a str>
+    ensures { IsInput (first_of (codes "FILE") (rows_of (found_of found.now))) result }
+{
+    match found.get_str("FILE") {
+        Some(name) => unless_dash(name),
+        None => None,
+    }
+}
+
+/// The file that is read in place of standard input; `None` if no file is named, or `-`.
+pub(crate) fn input<'a>(found: &ArgMatches<'a>) -> Option<&'a str>
+    ensures { HasInput (subcommand_rows_of found.now) result }
+{
+    match found.subcommand() {
+        Some((_, inner)) => input_named(inner),
+        None => None,
+    }
 }
 
 /// How many of `nodes` names are present at the start: `named`, or all if `named` is `None`.

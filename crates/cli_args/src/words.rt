@@ -1,6 +1,6 @@
 //! Reading the words of the command line.
 
-ghost use Rattle.std.specs.Prelude.{◌≡◌, ◌≤◌, ℕ, List, Option, IfOk, IfErr, IfSome, map, unwrap_or};
+ghost use Rattle.std.specs.Prelude.{◌≡◌, ◌≢◌, ◌≤◌, ℕ, List, Option, IfOk, IfErr, IfSome, codes, map, unwrap_or};
 ghost use Rattle.std.specs.Borrow.{Bor};
 ghost use Rattle.clap.specs.Words.{Text, kind_of};
 ghost use Rattle.clap.specs.declared.error.kind.ErrorKind.TheVariants.{OutOfMemory};
@@ -8,14 +8,23 @@ ghost use Rattle.rule_machine.specs.declared.rules.RuleSet.{RuleSet};
 ghost use Rattle.cli_args.specs.declared.task.Task.{Task};
 ghost use Rattle.cli_args.specs.declared.task.Task.TheVariants.{Run, Resume, Audit, Picture, Epochs};
 ghost use Rattle.cli_args.specs.Mistake.{IsMistake};
-ghost use Rattle.cli_args.specs.TaskWords.{ParsesTo, AreRoamers, AreWorkers, ResumedStorm, Storm, ParsesAsTask, WantsResumeStorm, WantsStorm, audit_words, epochs_words, picture_words, resume_storm_words, resume_words, run_words, usual_resumed_storm};
+ghost use Rattle.cli_args.specs.TaskWords.{ParsesTo, AreRoamers, AreWorkers, ResumedStorm, Storm, ParsesAsTask, ParsesOnFile, ReadsFrom, WantsResumeStorm, WantsStorm, audit_file_words, audit_words, epochs_file_words, epochs_words, picture_words, resume_storm_words, resume_words, run_words, usual_resumed_storm};
 
 use crate::command::{command, strict_command};
-use crate::task::{Task, asked};
+use crate::task::{Task, asked, input};
 use clap::error::ErrorKind;
 use clap::{ArgMatches, Error};
 use std::alloc::Global;
 use std::convert::AsStr;
+
+/// What good words ask for.
+#[derive(Debug, Drop)]
+pub struct Request<'a> {
+    /// The task.
+    pub task: Task<'a>,
+    /// The file that the task reads in place of standard input, as given; `None` for standard input.
+    pub file: Option<&'a str>,
+}
 
 fn goes_on(found: &ArgMatches<'_>) -> bool {
     match found.subcommand() {
@@ -44,10 +53,12 @@ fn mistake<'a, S: AsStr>(
 
 /// Reads the words of the command line as clap defines the command. The first is the program's name.
 ///
+/// The file is the one that the words name for the task, if they name one other than `-`.
 /// The error is clap's: the words are bad, or memory ran out. For good words that ask for a task, the only
 /// error is that memory ran out.
-pub fn read_words<'a, S: AsStr>(alloc: Global, words: &'a [S]) -> Result<Task<'a>, Error>
-    ensures answers { IfOk result (λ task. ParsesTo (map S.text words.entry.now) task) }
+pub fn read_words<'a, S: AsStr>(alloc: Global, words: &'a [S]) -> Result<Request<'a>, Error>
+    ensures answers { IfOk result (λ asked. ParsesTo (map S.text words.entry.now) asked.task) }
+    ensures input { IfOk result (λ asked. ReadsFrom (map S.text words.entry.now) asked.task asked.file) }
     ensures mistake { IfErr result (λ e. IsMistake (kind_of e)) }
     ensures wanted { IfErr result (λ e. (task : Task) → ParsesAsTask (map S.text words.entry.now) task → kind_of e ≡ OutOfMemory) }
     ensures wanted_storm { IfErr result (λ e. (storm : Storm) → WantsStorm (map S.text words.entry.now) storm → kind_of e ≡ OutOfMemory) }
@@ -56,17 +67,23 @@ pub fn read_words<'a, S: AsStr>(alloc: Global, words: &'a [S]) -> Result<Task<'a
     let mut command = command(alloc)?;
     match command.try_get_matches_from_mut(words) {
         Ok(found) => match asked(alloc, &found) {
-            Ok(Some(task)) => Ok(task),
+            Ok(Some(task)) => Ok(Request {
+                task,
+                file: input(&found),
+            }),
             Ok(None) => Err(mistake(alloc, &found, words)?),
             Err(error) => Err(error),
         },
         Err(error) if error.use_stderr() => Err(error),
-        Err(text) => Ok(Task::Show(text)),
+        Err(text) => Ok(Request {
+            task: Task::Show(text),
+            file: None,
+        }),
     }
 }
 
 /// The usual words are good and ask for their tasks. By default a run has one worker, also one that goes on;
-/// and a storm that goes on has one worker for a step and no roaming worker.
+/// and a storm that goes on has one worker for a step and no roaming worker. A file is named after `--`.
 pub fn usual_words()
     ensures run { (program : Text) (rules : RuleSet) (nodes : ℕ) (present workers : Option ℕ)
         → nodes ≤ 65535 → IfSome present (λ p. p ≤ 65535) → AreWorkers workers
@@ -79,4 +96,6 @@ pub fn usual_words()
     ensures audit { (program : Text) → ParsesAsTask (audit_words program) Audit }
     ensures picture { (program : Text) (entry : Option ℕ) → IfSome entry (λ k. k ≤ 16777216) → ParsesAsTask (picture_words program entry) (Picture entry) }
     ensures epochs { (program : Text) → ParsesAsTask (epochs_words program) Epochs }
+    ensures audit_file { (program : Text) (file : Bor Text) → file.now ≢ codes "-" → ParsesOnFile (audit_file_words program file.now) Audit file }
+    ensures epochs_file { (program : Text) (file : Bor Text) → file.now ≢ codes "-" → ParsesOnFile (epochs_file_words program file.now) Epochs file }
 {}

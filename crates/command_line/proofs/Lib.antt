@@ -4,3 +4,4 @@ pub mod MissingEntry
 pub mod Storms
 pub mod ShownText
 pub mod ResumedRuns
+pub mod TaskEnds

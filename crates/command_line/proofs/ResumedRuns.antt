@@ -1,5 +1,5 @@
 -- The end of a run or a storm that was to go on where the run of a file ended.
-use Rattle.std.proofs.Common.{ℕ, ◌≤◌, arith, List, Option, None, Some, ◌≡◌, Result, Ok, Err, OnErr, IfOk, false, length, refl, inl, inr, subst}
+use Rattle.std.proofs.Common.{ℕ, ◌≤◌, arith, List, Option, None, Some, ◌≡◌, Result, Ok, Err, OnErr, IfOk, length, refl, inl, inr, subst}
 use Rattle.std.specs.Prelude.{IfSome}
 use Rattle.std.specs.Io.KnownBytes.{Appends}
 use Rattle.std.proofs.KnownBytes.{Keeps-refl}
@@ -20,12 +20,10 @@ use Rattle.written_text.proofs.Outcomes.{resumed_accepted, run_accepted}
 use Rattle.command_line.specs.ProgramEnds.{TellsOutcome}
 use Rattle.command_line.specs.Status.{ended_status}
 use Rattle.command_line.specs.ViewEnds.{TellsFault}
-use Rattle.storm_runner.specs.FaultText.{end_line}
-use Rattle.storm_runner.specs.Status.{end_status}
 use Rattle.storm_runner.specs.declared.fault.StormFault.{StormFault}
 use Rattle.command_line.specs.FaultText.{run_fault_line}
 use Rattle.command_line.specs.ResumeEnds.{ResumesFile, ResumesStorm, TellsAuditFault, TellsDamage, TellsRunFrom, damaged_line, start_at, storm_from}
-use Rattle.command_line.specs.StormEnds.{EndsStormFrom}
+use Rattle.command_line.specs.StormEnds.{EndsStormFrom, TellsStormEnd}
 use Rattle.command_line.specs.WriterStates.{WriterState, WrittenBytes, WritesLine}
 
 -- a damage is reported, or that memory ran out for its line
@@ -78,12 +76,12 @@ went_on (Some script) bytes end rules limit start file old new before after stat
 -- the storm was played from the end of the file
 pub stormed_on : (bytes : List ℕ) (end : TranscriptEnd) (storm : ResumedStorm) (restart : RestartView) (scripts : ℕ) (old new before : WrittenBytes) (after : WriterState) (ended : Result Unit StormFault) (status : ℕ)
     → IsEndResult bytes (Ok end) → MayGoOn end → restart ≡ storm_from end storm → scripts ≡ length storm.scripts → EndsStormFrom restart scripts old new ended
-    → AppendsBeginning before after.got (end_line ended) → (after.failed ≡ false → Appends before after.got (end_line ended)) → status ≡ end_status ended
+    → TellsStormEnd ended before after status
     → ResumesStorm storm old new before after status
-stormed_on bytes end storm restart scripts old new before after ended status judged may same count ends begun whole is =
+stormed_on bytes end storm restart scripts old new before after ended status judged may same count ends told =
     let from = subst (λ (r : RestartView). EndsStormFrom r scripts old new ended) same ends in
     let some = subst (λ (n : ℕ). EndsStormFrom (storm_from end storm) n old new ended) count from in
-    (bytes, Ok end, judged, (may, (ended, some, (begun, whole), is)))
+    (bytes, Ok end, judged, (may, (ended, some, told)))
 
 -- the file was refused
 pub refused : (input : Option (List ℕ)) (bytes : List ℕ) (fault : AuditFault) (file : List ℕ) (old new before : WrittenBytes) (after : WriterState) (status : ℕ)

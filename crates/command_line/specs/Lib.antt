@@ -7,4 +7,7 @@ pub mod ViewEnds
 pub mod StormEnds
 pub mod ProgramEnds
 pub mod ResumeEnds
+pub mod ReadTexts
+pub mod FileNotes
+pub mod FileEnds
 pub mod WriterStates

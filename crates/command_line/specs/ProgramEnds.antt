@@ -2,8 +2,6 @@
 use Rattle.std.specs.Prelude.{◌≡◌, ℕ, List, length, Option, None, Some, Result, Ok, Err, IfOk}
 use Rattle.std.specs.Io.KnownBytes.{Appends, Keeps}
 use Rattle.byte_streams.specs.PartialOutput.{AppendsBeginning}
-use Rattle.clap.specs.Words.{kind_of}
-use Rattle.clap.specs.declared.error.Error.{Error}
 use Rattle.clap.specs.declared.error.kind.ErrorKind.{ErrorKind}
 use Rattle.clap.specs.declared.error.kind.ErrorKind.TheVariants.{OutOfMemory}
 use Rattle.rule_machine.specs.declared.rules.RuleSet.{RuleSet}
@@ -17,7 +15,7 @@ use Rattle.cli_args.specs.declared.task.Task.TheVariants as variants
 use Rattle.cli_args.specs.declared.task.Task.TheVariants.{Run, Resume, Audit, Picture, Epochs, ResumeStorm, Show}
 use Rattle.cli_args.specs.TaskWords.{Storm, present_at_start, resumed_storm_of, storm_of}
 use Rattle.command_line.specs.declared.verdict.CheckEnd.{CheckEnd}
-use Rattle.command_line.specs.Status.{ended_status, run_status, words_status}
+use Rattle.command_line.specs.Status.{ended_status, run_status}
 use Rattle.command_line.specs.FaultText.{bad_present_line, run_fault_line}
 use Rattle.transcript_view.specs.Views.{IsPicture, IsEpochTable}
 use Rattle.command_line.specs.WriterStates.{WriterState, WritesLine}
@@ -76,9 +74,3 @@ DoesTask (Show text) input old new before after status = ShowsSome old new befor
 abbrev pub TellsMistake : ErrorKind → WrittenBytes → WriterState → Type 0
 TellsMistake kind before after =
     (kind ≡ OutOfMemory → WritesLine before after (run_fault_line Memory)) × ((text : List ℕ) × WritesLine before after text)
-
--- the task is done; or bad words, or a lack of memory for reading them, are reported, and nothing is written
--- to the writer
-abbrev pub ActsOnWords : Result Task Error → List ℕ → WrittenBytes → WrittenBytes → WrittenBytes → WriterState → ℕ → Type 0
-ActsOnWords (Ok task) input old new before after status = DoesTask task input old new before after status
-ActsOnWords (Err e) input old new before after status = Keeps old new × TellsMistake (kind_of e) before after × (status ≡ words_status (kind_of e))

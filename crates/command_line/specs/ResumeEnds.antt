@@ -18,7 +18,7 @@ use Rattle.byte_streams.specs.PartialOutput.{AppendsBeginning}
 use Rattle.script_run.specs.Restarts.{RestartView}
 use Rattle.cli_args.specs.TaskWords.{ResumedStorm}
 use Rattle.command_line.specs.declared.verdict.CheckEnd.TheVariants as verdict
-use Rattle.command_line.specs.FaultText.{run_fault_line}
+use Rattle.command_line.specs.FileNotes.{TellsUnread}
 use Rattle.command_line.specs.Status.{ended_status}
 use Rattle.command_line.specs.StormEnds.{PlaysStormFrom}
 use Rattle.command_line.specs.VerdictText.{verdict_line}
@@ -35,9 +35,10 @@ TellsDamage file damage old new before after status =
     ((status ≡ 1) × Keeps old new × WritesLine before after (damaged_line file damage))
     ⊎ TellsEarly run.Memory old new before after status
 
--- an audit's fault is reported: a failed read and want of memory as those of a run, any other as damage
+-- an audit's fault is reported: a failed read with the file's name, want of memory as that of a run, any other
+-- as damage
 abbrev pub TellsAuditFault : List ℕ → AuditFault → WrittenBytes → WrittenBytes → WrittenBytes → WriterState → ℕ → Type 0
-TellsAuditFault file audit.Read old new before after status = TellsEarly run.Read old new before after status
+TellsAuditFault file audit.Read old new before after status = TellsUnread file old new before after status
 TellsAuditFault file audit.Memory old new before after status = TellsEarly run.Memory old new before after status
 TellsAuditFault file damage old new before after status = TellsDamage file damage old new before after status
 

@@ -1,5 +1,5 @@
 -- How a storm ends: what the writers have, and the exit status.
-use Rattle.std.specs.Prelude.{◌≡◌, ◌<◌, ℕ, List, length, Result}
+use Rattle.std.specs.Prelude.{◌≡◌, ◌<◌, ℕ, List, length, Result, Err}
 use Rattle.script_run.specs.Restarts.{RestartView}
 use Rattle.script_run.specs.RunOptions.{OptionsView}
 use Rattle.storm_runner.specs.declared.fault.StormFault.{StormFault}
@@ -8,6 +8,7 @@ use Rattle.storm_runner.specs.FaultText.{end_line}
 use Rattle.storm_runner.specs.Outcome.{IsResumedStorm, IsStormOutcome}
 use Rattle.storm_runner.specs.Status.{end_status}
 use Rattle.written_text.specs.StormTexts.{WritesAccepted}
+use Rattle.command_line.specs.FileNotes.{AddsNote}
 use Rattle.command_line.specs.WriterStates.{WrittenBytes, WriterState, WritesLine}
 
 -- one of these files cannot be opened, or memory ran out for opening them
@@ -21,10 +22,20 @@ FailsToOpen files _ = ⊥
 abbrev pub EndsStorm : OptionsView → ℕ → WrittenBytes → WrittenBytes → Result Unit StormFault → Type 0
 EndsStorm asked scripts old new ended = (texts : List WrittenBytes) × (length texts ≡ scripts) × IsStormOutcome asked texts old new ended × WritesAccepted old new ended
 
+-- after a failed read a line may name the file that is not read
+abbrev pub MayAddNote : Result Unit StormFault → WriterState → WriterState → Type 0
+MayAddNote (Err Read) mid after = (file : List ℕ) × AddsNote file mid.got after
+MayAddNote ended mid after = mid ≡ after
+
 -- the storm's end was reported, and the exit status fits
+abbrev pub TellsStormEnd : Result Unit StormFault → WrittenBytes → WriterState → ℕ → Type 0
+TellsStormEnd ended before after status =
+    (mid : WriterState) × WritesLine before mid (end_line ended) × MayAddNote ended mid after × (status ≡ end_status ended)
+
+-- the storm ended, and its end was reported
 abbrev pub PlaysStorm : OptionsView → ℕ → WrittenBytes → WrittenBytes → WrittenBytes → WriterState → ℕ → Type 0
 PlaysStorm asked scripts old new before after status =
-    (ended : Result Unit StormFault) × EndsStorm asked scripts old new ended × WritesLine before after (end_line ended) × (status ≡ end_status ended)
+    (ended : Result Unit StormFault) × EndsStorm asked scripts old new ended × TellsStormEnd ended before after status
 
 -- the same of a storm that goes on
 abbrev pub EndsStormFrom : RestartView → ℕ → WrittenBytes → WrittenBytes → Result Unit StormFault → Type 0
@@ -32,4 +43,4 @@ EndsStormFrom restart scripts old new ended = (texts : List WrittenBytes) × (le
 
 abbrev pub PlaysStormFrom : RestartView → ℕ → WrittenBytes → WrittenBytes → WrittenBytes → WriterState → ℕ → Type 0
 PlaysStormFrom restart scripts old new before after status =
-    (ended : Result Unit StormFault) × EndsStormFrom restart scripts old new ended × WritesLine before after (end_line ended) × (status ≡ end_status ended)
+    (ended : Result Unit StormFault) × EndsStormFrom restart scripts old new ended × TellsStormEnd ended before after status

@@ -1,5 +1,5 @@
 -- How a view of a transcript ends: what the writers have, and the exit status.
-use Rattle.std.specs.Prelude.{◌≡◌, ◌⊎◌, ℕ, List, ◌++◌, Option, Result, Ok, Err, IfOk, codes}
+use Rattle.std.specs.Prelude.{◌≡◌, ◌⊎◌, ℕ, List, ◌++◌, Result, Ok, Err, IfOk, codes}
 use Rattle.std.specs.Io.KnownBytes.{Appends, Keeps}
 use Rattle.byte_streams.specs.declared.input_fault.InputFault.{InputFault}
 use Rattle.byte_streams.specs.declared.input_fault.InputFault.TheVariants as input

@@ -9,7 +9,7 @@ ghost use Rattle.command_line.specs.StormEnds.{EndsStormFrom};
 ghost use Rattle.command_line.specs.WriterStates.{heard};
 ghost use Rattle.script_run.specs.Restarts.{restart_of};
 
-use crate::playing::open_all;
+use crate::playing::{Unread, open_all, tell_end};
 use crate::resuming::{end_of_file, refuse_file, restart_at};
 use auditor::TranscriptEnd;
 use byte_streams::FailStopWriter;
@@ -21,20 +21,23 @@ use std::rt::Files;
 use std::sync::Wait;
 use std::thread::Threads;
 use steal_pool::NoGate;
-use storm_runner::{StormFault, resume_storm, storm_end};
+use storm_runner::{StormFault, resume_storm};
 
-fn play_files_from<Out: Write, T: Threads + Wait + Sync + Files>(
+fn play_files_from<'a, Out: Write, T: Threads + Wait + Sync + Files>(
     rt: &T,
     alloc: Global,
     restart: Restart,
-    names: &[&str],
+    names: &[&'a str],
     writer: &mut FailStopWriter<Out>,
-) -> Result<(), StormFault>
-    ensures { EndsStormFrom (restart_of restart) (length names.now) (Out.contents writer.old.writer) (Out.contents writer.new.writer) result }
+) -> (Result<(), StormFault>, Unread<'a>)
+    ensures { EndsStormFrom (restart_of restart) (length names.now) (Out.contents writer.old.writer) (Out.contents writer.new.writer) result.0 }
 {
     match open_all(rt, alloc, names) {
-        Ok(files) => resume_storm(rt, alloc, restart, files, writer, &NoGate),
-        Err(fault) => Err(fault),
+        Ok(files) => (
+            resume_storm(rt, alloc, restart, files, writer, &NoGate),
+            None,
+        ),
+        Err((fault, unread)) => (Err(fault), unread),
     }
 }
 
@@ -67,12 +70,13 @@ pub fn resume_storm_file<Out: Write, Faults: Write, T: Threads + Wait + Sync + F
         (Faults.contents faults.old.writer) (heard Faults.contents faults.new) result }
     ensures status { IsStatus result }
 {
-    match end_of_file(rt, alloc, asked.from) {
+    let mut why = None;
+    match end_of_file(rt, alloc, asked.from, &mut why) {
         Ok(end) => {
             let restart = storm_restart(end, &asked);
-            let ended = play_files_from(rt, alloc, restart, &asked.scripts, writer);
-            storm_end(ended, faults)
+            let (ended, unread) = play_files_from(rt, alloc, restart, &asked.scripts, writer);
+            tell_end(alloc, ended, unread, faults)
         }
-        Err(fault) => refuse_file(alloc, asked.from, fault, faults),
+        Err(fault) => refuse_file(alloc, asked.from, fault, why, faults),
     }
 }

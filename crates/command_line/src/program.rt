@@ -1,24 +1,27 @@
 //! The program: from the words of the command line to the exit status.
 
-ghost use Rattle.std.specs.Prelude.{◌≡◌, ◌≢◌, ◌⊎◌, ℕ, List, false, true, IfErr, IfOk, IfSome, MatchOption, OnErr, Result, map, string_bytes};
+ghost use Rattle.std.specs.Prelude.{◌≡◌, ◌≢◌, ◌⊎◌, ℕ, List, Some, false, true, IfErr, IfOk, IfSome, MatchOption, OnErr, Result, map, string_bytes};
 ghost use Rattle.std.specs.Io.KnownBytes.{Appends};
 ghost use Rattle.clap.specs.declared.error.kind.ErrorKind.TheVariants.{OutOfMemory};
 ghost use Rattle.cli_args.specs.declared.task.Task.{Task};
 ghost use Rattle.cli_args.specs.declared.storm.ResumeStormWords.{ResumeStormWords};
 ghost use Rattle.cli_args.specs.declared.storm.StormWords.{StormWords};
 ghost use Rattle.std.specs.Borrow.{Bor};
-ghost use Rattle.cli_args.specs.TaskWords.{ParsesTo, Asks, ParsesAsTask};
+ghost use Rattle.cli_args.specs.declared.words.Request.{Request};
+ghost use Rattle.cli_args.specs.TaskWords.{ParsesTo, ReadsFrom, Asks, ParsesAsTask};
 ghost use Rattle.clap.specs.declared.error.Error.{Error};
 ghost use Rattle.clap.specs.Words.{kind_of};
 ghost use Rattle.byte_streams.specs.PartialOutput.{AppendsBeginning};
 ghost use Rattle.byte_streams.specs.StreamEnds.{IsEnded};
 ghost use Rattle.command_line.specs.FaultText.{bad_present_line, run_fault_line, no_words_line};
-ghost use Rattle.command_line.specs.ProgramEnds.{TellsBadPresent, TellsMistake, TellsOutcome, TellsCheck, ActsOnWords};
+ghost use Rattle.command_line.specs.ProgramEnds.{TellsBadPresent, TellsMistake, TellsOutcome, TellsCheck, DoesTask};
+ghost use Rattle.command_line.specs.FileEnds.{ActsOnFile, ActsOnWords, DoesOnFile, OpensFile};
 ghost use Rattle.command_line.specs.WriterStates.{heard};
 ghost use Rattle.command_line.specs.Status.{IsRunStatus, IsStatus, run_status, no_words_status, words_status};
 ghost use Rattle.command_line.specs.ViewEnds.{ShowsSome, ShowsText, TellsEarly};
 
 use crate::fault_line::write_fault;
+use crate::file_fault::{NotingFile, add_note, file_fault, tell_unread};
 use crate::options::network_options;
 use crate::playing::play_storm;
 use crate::playing_on::resume_storm_file;
@@ -28,10 +31,11 @@ use crate::viewing::{draw, list_epochs, show_text};
 use byte_streams::{CountingReader, FailStopWriter};
 use clap::Error;
 use clap::error::ErrorKind;
-use cli_args::{Task, read_words};
+use cli_args::{Request, Task, read_words};
 use script_run::{Options, RunFault, run};
 use std::alloc::{AllocError, Global};
 use std::convert::AsStr;
+use std::fs::File;
 use std::io::{self, Read, Write};
 use std::rt::Files;
 use std::sync::Wait;
@@ -201,6 +205,85 @@ fn check_transcript<In: Read, Out: Write, Faults: Write>(
     }
 }
 
+/// Does a task, whose script or transcript comes from the reader. Returns the exit status.
+///
+/// A storm reads its scripts instead, and the help nothing. For the statuses see `start`.
+pub fn perform<In: Read, Out: Write, Faults: Write, T: Threads + Wait + Sync + Files>(
+    rt: &T,
+    alloc: Global,
+    task: Task<'_>,
+    reader: &mut CountingReader<In>,
+    writer: &mut FailStopWriter<Out>,
+    faults: &mut FailStopWriter<Faults>,
+) -> u8
+    ensures does { IfSome (In.remaining reader.old.reader) (λ input. DoesTask task.entry input
+        (Out.contents writer.old.writer) (Out.contents writer.new.writer)
+        (Faults.contents faults.old.writer) (heard Faults.contents faults.new) result) }
+    ensures status { IsStatus result }
+    ensures device { result ≡ 3 → OpensFile task.entry ⊎ (IsEnded reader.new.failed reader.new.count ⊎ (writer.new.failed ≡ true)) }
+{
+    match task {
+        Task::Run {
+            rules,
+            nodes,
+            present,
+            workers,
+        } => {
+            let options = network_options(rules, nodes, present, workers);
+            run_network(rt, alloc, options, reader, writer, faults)
+        }
+        Task::Resume { from, workers } => {
+            resume_file(rt, alloc, from, workers, reader, writer, faults)
+        }
+        Task::Audit => check_transcript(alloc, reader, writer, faults),
+        Task::Picture { entry } => draw(alloc, entry, reader, writer, faults),
+        Task::Epochs => list_epochs(alloc, reader, writer, faults),
+        Task::Storm(asked) => play_storm(rt, alloc, asked, writer, faults),
+        Task::ResumeStorm(asked) => resume_storm_file(rt, alloc, asked, writer, faults),
+        Task::Show(text) => show(alloc, text, writer, faults),
+    }
+}
+
+// A failed read is followed by a line that names the file.
+fn perform_on<Opened: Read + Drop, Out: Write, Faults: Write, T: Threads + Wait + Sync + Files>(
+    rt: &T,
+    alloc: Global,
+    task: Task<'_>,
+    name: &str,
+    opened: Opened,
+    writer: &mut FailStopWriter<Out>,
+    faults: &mut FailStopWriter<Faults>,
+) -> u8
+    ensures does { DoesOnFile name.now (Opened.remaining opened) task.entry
+        (Out.contents writer.old.writer) (Out.contents writer.new.writer)
+        (Faults.contents faults.old.writer) (heard Faults.contents faults.new) result }
+    ensures status { IsStatus result }
+{
+    let mut noting = NotingFile::new(opened);
+    let mut reader = CountingReader::new(&mut noting);
+    let status = perform(rt, alloc, task, &mut reader, writer, faults);
+    add_note(alloc, name, noting.fault, faults);
+    status
+}
+
+fn perform_on_file<Out: Write, Faults: Write, T: Threads + Wait + Sync + Files>(
+    rt: &T,
+    alloc: Global,
+    task: Task<'_>,
+    name: &str,
+    writer: &mut FailStopWriter<Out>,
+    faults: &mut FailStopWriter<Faults>,
+) -> u8
+    ensures does { ActsOnFile name.now task.entry (Out.contents writer.old.writer) (Out.contents writer.new.writer)
+        (Faults.contents faults.old.writer) (heard Faults.contents faults.new) result }
+    ensures status { IsStatus result }
+{
+    match File::open(rt, name) {
+        Ok(opened) => perform_on(rt, alloc, task, name, opened, writer, faults),
+        Err(error) => tell_unread(alloc, name, Some(file_fault(error.kind())), faults),
+    }
+}
+
 /// Does the task of the words, of which the first is the program's name. Returns the exit status.
 ///
 /// | Status | When |
@@ -211,8 +294,9 @@ fn check_transcript<In: Read, Out: Write, Faults: Write>(
 /// | 3 | a failed read or write, or a file that could not be opened |
 /// | 4 | no memory, a full log, or a clerk that is behind |
 ///
-/// Faults are written to `faults`. After bad words nothing is written to `writer`. Only a run and a storm may
-/// wait, for the threads that they start from `rt`.
+/// If the words name a file other than `-`, the task reads it in place of `reader`. Faults are written to
+/// `faults`. After bad words nothing is written to `writer`. Only a run and a storm may wait, for the threads
+/// that they start from `rt`.
 pub fn start<S: AsStr, In: Read, Out: Write, Faults: Write, T: Threads + Wait + Sync + Files>(
     rt: &T,
     alloc: Global,
@@ -221,8 +305,8 @@ pub fn start<S: AsStr, In: Read, Out: Write, Faults: Write, T: Threads + Wait + 
     writer: &mut FailStopWriter<Out>,
     faults: &mut FailStopWriter<Faults>,
 ) -> u8
-    ensures does { IfSome (In.remaining reader.old.reader) (λ input. (asked : Result Task Error)
-        × IfOk asked (ParsesTo (map S.text words.entry.now))
+    ensures does { IfSome (In.remaining reader.old.reader) (λ input. (asked : Result Request Error)
+        × IfOk asked (λ good. ParsesTo (map S.text words.entry.now) good.task × ReadsFrom (map S.text words.entry.now) good.task good.file)
         × IfErr asked (λ e. (task : Task) → ParsesAsTask (map S.text words.entry.now) task → kind_of e ≡ OutOfMemory)
         × ActsOnWords asked input (Out.contents writer.old.writer) (Out.contents writer.new.writer)
         (Faults.contents faults.old.writer) (heard Faults.contents faults.new) result) }
@@ -230,29 +314,14 @@ pub fn start<S: AsStr, In: Read, Out: Write, Faults: Write, T: Threads + Wait + 
     ensures device { result ≡ 3 → ((storm : StormWords) × Asks (map S.text words.entry.now) (Task.Storm storm))
         ⊎ (((from : Bor (List ℕ)) × (workers : ℕ) × Asks (map S.text words.entry.now) (Task.Resume from workers))
         ⊎ (((more : ResumeStormWords) × Asks (map S.text words.entry.now) (Task.ResumeStorm more))
-        ⊎ (IsEnded reader.new.failed reader.new.count ⊎ (writer.new.failed ≡ true)))) }
+        ⊎ (((task : Task) × (file : Bor (List ℕ)) × ReadsFrom (map S.text words.entry.now) task (Some file))
+        ⊎ (IsEnded reader.new.failed reader.new.count ⊎ (writer.new.failed ≡ true))))) }
 {
     match read_words(alloc, words) {
-        Ok(
-            Task::Run {
-                rules,
-                nodes,
-                present,
-                workers,
-            },
-        ) => {
-            let options = network_options(rules, nodes, present, workers);
-            run_network(rt, alloc, options, reader, writer, faults)
-        }
-        Ok(Task::Resume { from, workers }) => {
-            resume_file(rt, alloc, from, workers, reader, writer, faults)
-        }
-        Ok(Task::Audit) => check_transcript(alloc, reader, writer, faults),
-        Ok(Task::Picture { entry }) => draw(alloc, entry, reader, writer, faults),
-        Ok(Task::Epochs) => list_epochs(alloc, reader, writer, faults),
-        Ok(Task::Storm(asked)) => play_storm(rt, alloc, asked, writer, faults),
-        Ok(Task::ResumeStorm(asked)) => resume_storm_file(rt, alloc, asked, writer, faults),
-        Ok(Task::Show(text)) => show(alloc, text, writer, faults),
+        Ok(Request { task, file }) => match file {
+            None => perform(rt, alloc, task, reader, writer, faults),
+            Some(name) => perform_on_file(rt, alloc, task, name, writer, faults),
+        },
         Err(error) => refuse(alloc, error, faults),
     }
 }

@@ -9,6 +9,7 @@ ghost use Rattle.command_line.specs.ResumeEnds.{ResumesFile, TellsAuditFault, Te
 ghost use Rattle.command_line.specs.Status.{IsRunStatus, IsStatus};
 ghost use Rattle.command_line.specs.WriterStates.{heard, WrittenBytes, WritesLine};
 
+use crate::file_fault::{FileFault, NotingFile, file_fault, tell_unread};
 use crate::program::tell;
 use crate::verdict::CheckEnd;
 use crate::verdict_line::verdict_line;
@@ -22,18 +23,37 @@ use std::rt::Files;
 use std::sync::Wait;
 use std::thread::Threads;
 
-/// Where the run of the file ended; `Read` if the file cannot be opened.
+// Sets `why` if a read fails.
+fn end_in<File: Read + Drop>(
+    alloc: Global,
+    file: File,
+    why: &mut Option<FileFault>,
+) -> Result<TranscriptEnd, AuditFault>
+    ensures audited { (bytes : List ℕ) × IsEndResult bytes result }
+    ensures goes_on { IfOk result MayGoOn }
+{
+    let mut noting = NotingFile::new(file);
+    let end = end_of(alloc, &mut CountingReader::new(&mut noting));
+    *why = noting.fault;
+    end
+}
+
+/// Where the run of the file ended; `Read` if the file cannot be opened or read, and `why` is set then.
 pub(crate) fn end_of_file<T: Files>(
     rt: &T,
     alloc: Global,
     file: &str,
+    why: &mut Option<FileFault>,
 ) -> Result<TranscriptEnd, AuditFault>
     ensures audited { (bytes : List ℕ) × IsEndResult bytes result }
     ensures goes_on { IfOk result MayGoOn }
 {
     match File::open(rt, file) {
-        Ok(opened) => end_of(alloc, &mut CountingReader::new(opened)),
-        Err(_) => Err(AuditFault::Read),
+        Ok(opened) => end_in(alloc, opened, why),
+        Err(error) => {
+            *why = Some(file_fault(error.kind()));
+            Err(AuditFault::Read)
+        }
     }
 }
 
@@ -68,13 +88,14 @@ fn tell_damage<Faults: Write>(
     }
 }
 
-/// Reports why the file is refused, and returns the exit status.
+/// Reports why the file is refused, and returns the exit status. `why` is the reason of a failed read.
 ///
 /// Nothing is written to another writer, whatever that has received.
 pub(crate) fn refuse_file<Faults: Write>(
     alloc: Global,
     file: &str,
     fault: AuditFault,
+    why: Option<FileFault>,
     faults: &mut FailStopWriter<Faults>,
 ) -> u8
     ensures told { (known : WrittenBytes) → TellsAuditFault file.now fault known known
@@ -82,7 +103,7 @@ pub(crate) fn refuse_file<Faults: Write>(
     ensures status { IsStatus result }
 {
     match fault {
-        AuditFault::Read => tell(RunFault::Read, faults),
+        AuditFault::Read => tell_unread(alloc, file, why, faults),
         AuditFault::Memory => tell(RunFault::Memory, faults),
         _ => tell_damage(damaged_line(alloc, file, fault), faults),
     }
@@ -151,8 +172,9 @@ pub fn resume_file<In: Read, Out: Write, Faults: Write, T: Threads + Wait + Sync
         (Faults.contents faults.old.writer) (heard Faults.contents faults.new) result) }
     ensures status { IsStatus result }
 {
-    match end_of_file(rt, alloc, file) {
+    let mut why = None;
+    match end_of_file(rt, alloc, file, &mut why) {
         Ok(end) => run_from(rt, alloc, restart_at(end, workers), reader, writer, faults),
-        Err(fault) => refuse_file(alloc, file, fault, faults),
+        Err(fault) => refuse_file(alloc, file, fault, why, faults),
     }
 }

@@ -1,18 +1,20 @@
 //! Showing views of a transcript.
 
-ghost use Rattle.std.specs.Prelude.{◌≡◌, ◌⊎◌, true, Err, IfErr, IfOk, IfSome, IsErrOf, OnErr};
+ghost use Rattle.std.specs.Prelude.{◌≡◌, ◌⊎◌, ℕ, List, true, Err, IfErr, IfOk, IfSome, IsErrOf, OnErr};
 ghost use Rattle.byte_streams.specs.StreamEnds.{IsEnded};
 ghost use Rattle.transcript_view.specs.Views.{IsPicture, IsEpochTable};
 ghost use Rattle.command_line.specs.FaultText.{run_fault_line};
+ghost use Rattle.command_line.specs.ReadTexts.{IsTextOf};
 ghost use Rattle.command_line.specs.WriterStates.{heard, WritesLine};
 ghost use Rattle.command_line.specs.Status.{IsStatus};
 ghost use Rattle.command_line.specs.ViewEnds.{ShowsRefusal, ShowsText, TellsView, Views, missing_line};
 
 use crate::program::tell;
+use crate::text::{ReadText, read_text};
 use crate::verdict::CheckEnd;
 use crate::verdict_line::{put_number, verdict_line};
 use auditor::AuditFault;
-use byte_streams::{CountingReader, FailStopWriter, InputFault, read_whole};
+use byte_streams::{CountingReader, FailStopWriter, InputFault};
 use script_run::RunFault;
 use std::alloc::{AllocError, Global};
 use std::io::{Read, Write};
@@ -121,37 +123,41 @@ fn tell_view<Out: Write, Faults: Write>(
 
 fn view_picture_of(
     alloc: Global,
-    read: Result<Vec<u8>, InputFault>,
+    read: Result<ReadText, InputFault>,
     entry: Option<u32>,
 ) -> Result<View, InputFault>
-    ensures read { IfOk read (λ bytes. IfOk result (IsPicture bytes.items entry)) }
+    ensures read { (input : List ℕ) → IfOk read (λ text. IsTextOf input text → IfOk result (IsPicture input entry)) }
     ensures unread { IfErr read (λ fault. result ≡ Err fault) }
     ensures same { IsErrOf result InputFault.Read → IsErrOf read InputFault.Read }
 {
     match read {
-        Ok(bytes) => match view_picture(alloc, &bytes, entry) {
+        Ok(ReadText::Whole(bytes)) => match view_picture(alloc, &bytes, entry) {
             Ok(view) => Ok(view),
             Err(_) => Err(InputFault::Memory),
         },
+        Ok(ReadText::Endless) => Ok(View::Refused(AuditFault::BadHeader)),
         Err(fault) => Err(fault),
     }
 }
 
-fn view_epochs_of(alloc: Global, read: Result<Vec<u8>, InputFault>) -> Result<View, InputFault>
-    ensures read { IfOk read (λ bytes. IfOk result (IsEpochTable bytes.items)) }
+fn view_epochs_of(alloc: Global, read: Result<ReadText, InputFault>) -> Result<View, InputFault>
+    ensures read { (input : List ℕ) → IfOk read (λ text. IsTextOf input text → IfOk result (IsEpochTable input)) }
     ensures unread { IfErr read (λ fault. result ≡ Err fault) }
     ensures same { IsErrOf result InputFault.Read → IsErrOf read InputFault.Read }
 {
     match read {
-        Ok(bytes) => match view_epochs(alloc, &bytes) {
+        Ok(ReadText::Whole(bytes)) => match view_epochs(alloc, &bytes) {
             Ok(view) => Ok(view),
             Err(_) => Err(InputFault::Memory),
         },
+        Ok(ReadText::Endless) => Ok(View::Refused(AuditFault::BadHeader)),
         Err(fault) => Err(fault),
     }
 }
 
 /// Writes the picture of the state after an entry, or after the last entry. Returns the exit status.
+///
+/// Reads to the end, unless the first line is longer than any line of a transcript: that is refused at once.
 ///
 /// | Status | When |
 /// |---|---|
@@ -172,11 +178,13 @@ pub fn draw<In: Read, Out: Write, Faults: Write>(
     ensures status { IsStatus result }
     ensures device { result ≡ 3 → IsEnded reader.new.failed reader.new.count ⊎ (writer.new.failed ≡ true) }
 {
-    let viewed = view_picture_of(alloc, read_whole(alloc, reader), entry);
+    let viewed = view_picture_of(alloc, read_text(alloc, reader), entry);
     tell_view(alloc, viewed, writer, faults)
 }
 
 /// Writes the table of the transcript's epochs, and returns the exit status.
+///
+/// Reads to the end, unless the first line is longer than any line of a transcript: that is refused at once.
 ///
 /// | Status | When |
 /// |---|---|
@@ -195,6 +203,6 @@ pub fn list_epochs<In: Read, Out: Write, Faults: Write>(
     ensures status { IsStatus result }
     ensures device { result ≡ 3 → IsEnded reader.new.failed reader.new.count ⊎ (writer.new.failed ≡ true) }
 {
-    let viewed = view_epochs_of(alloc, read_whole(alloc, reader));
+    let viewed = view_epochs_of(alloc, read_text(alloc, reader));
     tell_view(alloc, viewed, writer, faults)
 }

@@ -1,9 +1,9 @@
 // The texts of the help: those of `run` and `audit` are the program's own, to the byte.
 
 export const TOP_USAGE = "console <COMMAND>";
-export const RUN_USAGE = `console run [OPTIONS] --rules <RULES> --nodes <N>
-       console run [OPTIONS] --from <FILE>`;
-export const AUDIT_USAGE = "console audit < FILE";
+export const RUN_USAGE = `console run [OPTIONS] --rules <RULES> --nodes <N> [SCRIPT]
+       console run [OPTIONS] --from <FILE> [SCRIPT]`;
+export const AUDIT_USAGE = "console audit [FILE]";
 
 export const TOP_HELP = `Keeps a maximal matching on a changing network by self-stabilising rules, and
 writes a numbered transcript of every event and its reply.
@@ -11,8 +11,8 @@ writes a numbered transcript of every event and its reply.
 Usage: console <COMMAND>
 
 Commands:
-  run    Runs the script on standard input and writes its transcript.
-  audit  Judges the transcript on standard input and prints one line.
+  run    Runs a script and writes its transcript.
+  audit  Judges a transcript and prints one line.
   help   Print this message or the help of the given subcommand(s)
 
 Options:
@@ -23,15 +23,18 @@ Here \`console\` is \`node rudekpi.mjs\`, on any system. The program console, fo
 Linux on x86-64, also has picture, epochs and storm.
 
 Examples:
-  node rudekpi.mjs run --rules hh --nodes 4 < script > transcript
-  node rudekpi.mjs audit < transcript
+  node rudekpi.mjs run --rules hh --nodes 4 script > transcript
+  node rudekpi.mjs audit transcript
   node rudekpi.mjs help run
 `;
 
-export const RUN_HELP = `Runs the script on standard input and writes its transcript.
+export const RUN_HELP = `Runs a script and writes its transcript.
 
-Usage: console run [OPTIONS] --rules <RULES> --nodes <N>
-       console run [OPTIONS] --from <FILE>
+Usage: console run [OPTIONS] --rules <RULES> --nodes <N> [SCRIPT]
+       console run [OPTIONS] --from <FILE> [SCRIPT]
+
+Arguments:
+  [SCRIPT]  The file of the script; default: -, standard input
 
 Options:
       --rules <RULES>  Hsu and Huang's, or Manne's [possible values: hh, manne]
@@ -66,23 +69,26 @@ Commands of a script, one per line; A and B are names of nodes:
   checkpoint    writes the state as a base, from which a transcript may begin
 
 Examples:
-  console run --rules manne --nodes 4 < script > transcript
-  console run --rules manne --nodes 60000 --workers 4 < script > transcript
-  console run --rules hh --nodes 9 --present 4 < script > transcript
+  console run --rules manne --nodes 4 script > transcript
+  console run --rules manne --nodes 60000 --workers 4 script > transcript
+  console run --rules hh --nodes 9 --present 4 script > transcript
   printf 'link 1 2\\nstep 1\\nstep 2\\n' | console run --rules hh --nodes 2
-  console run --from transcript < more > rest; cat transcript rest > whole
+  console run --from transcript more > rest; cat transcript rest > whole
 
 Exit status:
   0  the whole script was run
   1  the transcript of --from is refused
   2  bad words, a P above N (! bad present), or a line that is not a command
-  3  a read or a write failed, or FILE cannot be opened
+  3  a read or a write failed, or a file cannot be opened
   4  memory ran out, or the log is full
 `;
 
-export const AUDIT_HELP = `Judges the transcript on standard input and prints one line.
+export const AUDIT_HELP = `Judges a transcript and prints one line.
 
-Usage: console audit < FILE
+Usage: console audit [FILE]
+
+Arguments:
+  [FILE]  The file of the transcript; default: -, standard input
 
 Options:
   -h, --help  Print help
@@ -93,13 +99,13 @@ base must be that of the state reached. Otherwise the first wrong line is named,
 with the first of these that is wrong: its form, its number, its reply.
 
 Examples:
-  console audit < transcript
-  console run --rules hh --nodes 4 < script | console audit
+  console audit transcript
+  console run --rules hh --nodes 4 script | console audit
 
 Exit status:
   0  accepted
   1  refused
   2  bad words
-  3  a read or a write failed
+  3  a read or a write failed, or FILE cannot be opened
   4  memory ran out
 `;

@@ -23,6 +23,14 @@ const REASONS = {
   EPERM: "may not be read",
 };
 
+/**
+ * A name as it is shown: a question mark for a control character, so that it stays in one line.
+ * @param {string} name
+ */
+function shownName(name) {
+  return name.replace(/[\0-\x1f\x7f]/g, "?");
+}
+
 /** Why a task ended early: the lines that it reports, and its status. */
 export class TaskEnd extends Error {
   /**
@@ -47,7 +55,7 @@ function ofFile(path, act) {
     return act();
   } catch (wrong) {
     if (wrong instanceof StreamFault && wrong.way === "read") {
-      throw new TaskEnd(FAILED, "! read failed", `! ${path}: ${REASONS[wrong.code] ?? wrong.code}`);
+      throw new TaskEnd(FAILED, "! read failed", `! ${shownName(path)}: ${REASONS[wrong.code] ?? "cannot be read"}`);
     }
     throw wrong;
   }
@@ -185,19 +193,40 @@ class ScriptRun {
 }
 
 /**
- * Runs the script on standard input and writes its transcript. Throws `TaskEnd`, `StreamFault` or
- * `MemoryError`.
+ * Runs the source's script and writes its transcript. Throws `TaskEnd`, `StreamFault` or `MemoryError`.
  * @param {Files} files
  * @param {Given} given
+ * @param {Source} source
  */
-export function run(files, given) {
+function runOn(files, given, source) {
   const script = new ScriptRun(files, sessionOf(files, given));
-  const source = new Source(files, null);
   for (let piece = source.read(); piece.length > 0; piece = source.read()) {
     script.take(piece);
   }
   script.end();
   return OK;
+}
+
+/**
+ * Does a task on a file, or on standard input if none is given or `-`. Throws what the task throws; `TaskEnd`
+ * if the file can't be read.
+ * @template Result
+ * @param {Files} files
+ * @param {Given} given
+ * @param {(source: Source) => Result} task
+ */
+function onInput(files, {file = "-"}, task) {
+  return file === "-" ? task(new Source(files, null)) : ofFile(file, () => task(new Source(files, file)));
+}
+
+/**
+ * Runs the script in a file or on standard input, and writes its transcript. Throws `TaskEnd`, `StreamFault` or
+ * `MemoryError`.
+ * @param {Files} files
+ * @param {Given} given
+ */
+export function run(files, given) {
+  return onInput(files, given, (source) => runOn(files, given, source));
 }
 
 /**
@@ -226,9 +255,8 @@ function judged(source) {
  * @param {Files} files
  * @param {Given} given
  */
-export function audit(files, {file = "-"}) {
-  const judge = () => judged(new Source(files, file === "-" ? null : file));
-  const { line, status } = file === "-" ? judge() : ofFile(file, judge);
+export function audit(files, given) {
+  const { line, status } = onInput(files, given, judged);
   writeAll(files, OUT, bytesOf(line));
   return status;
 }

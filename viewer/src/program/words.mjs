@@ -31,7 +31,7 @@ const RUN_OPTIONS = [
 ];
 /** @type {Command[]} */
 const COMMANDS = [
-  { name: "run", help: RUN_HELP, usage: RUN_USAGE, options: RUN_OPTIONS, files: 0 },
+  { name: "run", help: RUN_HELP, usage: RUN_USAGE, options: RUN_OPTIONS, files: 1 },
   { name: "audit", help: AUDIT_HELP, usage: AUDIT_USAGE, options: [], files: 1 },
 ];
 
@@ -268,7 +268,7 @@ function listed(shown) {
 function checkRun(given) {
   /** @param {string[]} names */
   const those = (names) => names.map((name) => shown(RUN_OPTIONS.find((option) => option.name === name)));
-  const names = Object.keys(given);
+  const names = Object.keys(given).filter((name) => name !== "file");
   const beside = names.filter((name) => FRESH.includes(name));
   if (given.from !== undefined && beside.length > 0) {
     const first = names.find((name) => name === "from" || FRESH.includes(name));

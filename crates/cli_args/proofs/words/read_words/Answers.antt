@@ -1,5 +1,5 @@
 use Rattle.cli_args.proofs.Prelude.{map, app_of, subcommand_rows_of}
-use Rattle.cli_args.proofs.WordReadings.{matched, answered, some_read, none_read, unwanted, storm_unwanted, resume_unwanted, taken, storm_taken, resume_taken, of_error}
+use Rattle.cli_args.proofs.WordReadings.{matched, answered, file_read, some_read, none_read, unwanted, storm_unwanted, resume_unwanted, taken, storm_taken, resume_taken, of_error}
 use Rattle.cli_args.proofs.words.read_words.Goals as goal
 
 pub returns-in-Ok-Some-clause-answers : goal.returns-in-Ok-Some-clause-answers
@@ -8,6 +8,14 @@ returns-in-Ok-Some-clause-answers g c =
     let words = map g.S.AsStr.text c.args.words.now in
     let found = matched (app_of c.in_ok-command.command) made.0 words c.in-Ok.found made.2 c.in-Ok.ensures.ok.2 in
     answered made.0 words (subcommand_rows_of c.in-Ok.found) c.in-Ok-Some.task made.1 found (some_read _ _ c.in-Ok-Some.field-0 c.in-Ok-Some.task c.in-Ok-Some.field-0-is c.in-Ok-Some.ensures.read)
+
+pub returns-in-Ok-Some-clause-input : goal.returns-in-Ok-Some-clause-input
+returns-in-Ok-Some-clause-input g c =
+    let made = c.in_ok-command.ensures in
+    let words = map g.S.AsStr.text c.args.words.now in
+    let found = matched (app_of c.in_ok-command.command) made.0 words c.in-Ok.found made.2 c.in-Ok.ensures.ok.2 in
+    let held = some_read _ _ c.in-Ok-Some.field-0 c.in-Ok-Some.task c.in-Ok-Some.field-0-is c.in-Ok-Some.ensures.read in
+    file_read made.0 words (subcommand_rows_of c.in-Ok.found) c.in-Ok-Some.task c.input.result made.1 found held c.input.ensures
 
 pub returns-in_err-mistake-in-Ok-None-clause-wanted : goal.returns-in_err-mistake-in-Ok-None-clause-wanted
 returns-in_err-mistake-in-Ok-None-clause-wanted g c =

@@ -14,8 +14,8 @@ returns-in-Ok-clause-resumed g c =
     let same = c.deref.ensures.value in
     let count : length c.deref.result.now ≡ length (map (λ (s : Bor (List ℕ)). s.now) c.args.asked.scripts.items) = cc in
     stormed_on c.in-Ok.ensures.audited.0 c.in-Ok.end (resumed_storm_of c.args.asked) (restart_of c.storm_restart-restart.result) (length c.deref.result.now)
-    (out c.args.writer.now.writer) (out c.play_files_from-ended.new.writer.writer) (faults c.args.faults.now.writer) (heard faults c.storm_end.new.faults) c.play_files_from-ended.result c.storm_end.result
-    c.in-Ok.ensures.audited.1 c.in-Ok.ensures.goes_on c.storm_restart-restart.ensures count c.play_files_from-ended.ensures c.storm_end.ensures.told c.storm_end.ensures.whole c.storm_end.ensures.status
+    (out c.args.writer.now.writer) (out c.play_files_from-ended.new.writer.writer) (faults c.args.faults.now.writer) (heard faults c.tell_end.new.faults) c.play_files_from-ended.result.0 c.tell_end.result
+    c.in-Ok.ensures.audited.1 c.in-Ok.ensures.goes_on c.storm_restart-restart.ensures count c.play_files_from-ended.ensures c.tell_end.ensures
 
 pub returns-clause-resumed : goal.returns-clause-resumed
 returns-clause-resumed g c =
