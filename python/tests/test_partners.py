@@ -117,14 +117,15 @@ class ByHand(Timed):
     def test_partners_lost_without_a_disturbance(self) -> None:
         """No machine breaks a pair by a move, so these entries are none of a machine."""
         pair = ["link 1 2 = ok", "point 1 2 = ok", "point 2 1 = ok"]
-        for touch, count in (
+        cases: list[tuple[list[str], int]] = [
             ([], 2),
             (["flag 3 1 = ok", "link 2 3 = ok", "unlink 2 3 = ok"], 2),
             (["flag 2 1 = ok"], 0),
             (["point 1 2 = ok"], 0),
             # the link is touched, and the pointers that it had
             (["unlink 1 2 = ok", "link 1 2 = ok", "step 1 = 1:seduce>2", "step 2 = 2:marry>1"], 0),
-        ):
+        ]
+        for touch, count in cases:
             watch = followed("manne", 3, pair)
             watch.begin()
             for number, line in enumerate([*touch, "step 1 = 1:abandon"], 4):
@@ -313,7 +314,7 @@ class Command(Timed):
     def done(self, words: str, given: str = "") -> subprocess.CompletedProcess[str]:
         paths = dict(os.environ, PYTHONPATH=os.path.join(TOP, "python"))
         command = [sys.executable, "-m", "rudekpi", *words.split(" ")]
-        return subprocess.run(command, cwd=self.at, env=paths, input=given, capture_output=True, text=True)
+        return subprocess.run(command, cwd=self.at, env=paths, input=given, capture_output=True, encoding="utf-8")
 
     def test_bursts(self) -> None:
         text = played("hh", 2, ["link 1 2", "step 1", "step 2", "point 1 -", "step 1>2"])
@@ -344,7 +345,7 @@ class Command(Timed):
         lines = whole.splitlines(keepends=True)
         (self.at / "rows.csv").write_bytes(b"".join(lines[:2]) + lines[2][:30])
         self.assertEqual(self.done(f"{words} --partners --resume").returncode, 0)
-        rows = (self.at / "rows.csv").read_text().splitlines()
+        rows = (self.at / "rows.csv").read_text(encoding="utf-8").splitlines()
         at = COLUMNS.index("seconds")
         cells = [
             [line.split(",")[:at] + line.split(",")[at + 1 :] for line in text] for text in (rows, self.text(whole))

@@ -45,7 +45,7 @@ class Files(Timed):
         self.at = pathlib.Path(self.folder())
 
     def racks(self, text: str) -> Racks:
-        (self.at / "racks").write_text(text)
+        (self.at / "racks").write_text(text, encoding="utf-8")
         return read_racks(self.at / "racks")
 
     def test_by_hand(self) -> None:
@@ -217,20 +217,22 @@ class Command(Timed):
 
     def test_sweeps(self) -> None:
         at = pathlib.Path(self.folder())
-        (at / "g.txt").write_text("a b\nc d\n")
-        (at / "racks.csv").write_text("a,r1\nc,r1\nb,r2\n")
-        (at / "other.csv").write_text("a,r1\nx,r1\n")
+        (at / "g.txt").write_text("a b\nc d\n", encoding="utf-8")
+        (at / "racks.csv").write_text("a,r1\nc,r1\nb,r2\n", encoding="utf-8")
+        (at / "other.csv").write_text("a,r1\nx,r1\n", encoding="utf-8")
 
         def done(words: str) -> subprocess.CompletedProcess[str]:
             paths = dict(os.environ, PYTHONPATH=os.path.join(TOP, "python"))
             command = [sys.executable, "-m", "rudekpi", *words.split(" ")]
-            return subprocess.run(command, cwd=at, env=paths, capture_output=True, text=True)
+            return subprocess.run(command, cwd=at, env=paths, capture_output=True, encoding="utf-8")
 
         words = "sweep --graph g.txt --leaves 1 --seeds 3 --processes 1"
         ran = done(f"{words} --racks racks.csv --csv rows.csv")
         self.assertEqual((ran.returncode, ran.stdout, ran.stderr), (0, "", ""))
         digest = read_racks(at / "racks.csv").digest
-        self.assertEqual((at / "rows.csv").read_text().count(f'"1 leave, by groups of racks.csv {digest}"'), 3)
+        self.assertEqual(
+            (at / "rows.csv").read_text(encoding="utf-8").count(f'"1 leave, by groups of racks.csv {digest}"'), 3
+        )
         self.assertEqual(done("again rows.csv 3").returncode, 0)
         for more, why in (
             ("--racks other.csv", "other.csv: line 2: x is no node of g.txt"),
@@ -240,7 +242,7 @@ class Command(Timed):
             ran = done(f"{words} {more}")
             self.assertEqual((ran.returncode, ran.stdout), (2, ""))
             self.assertTrue(ran.stderr.startswith(f"! {why}"), ran.stderr)
-        (at / "racks.csv").write_text("a,r1\nb,r1\n")
+        (at / "racks.csv").write_text("a,r1\nb,r1\n", encoding="utf-8")
         ran = done(f"{words} --racks racks.csv --csv rows.csv --resume")
         self.assertEqual(ran.stderr, "! rows.csv: line 2: the row is of another racks.csv, which has changed since\n")
         self.assertEqual(done("again rows.csv 1").returncode, 1)

@@ -170,7 +170,7 @@ class Pipes(Timed):
             stdout=subprocess.PIPE,
         )
         judge = [sys.executable, "-m", "rudekpi", "conform", "--rules", "hh", *words]
-        done = subprocess.run(judge, stdin=writer.stdout, env=environment(), capture_output=True, text=True)
+        done = subprocess.run(judge, stdin=writer.stdout, env=environment(), capture_output=True, encoding="utf-8")
         assert writer.stdout
         writer.stdout.close()
         return writer.wait(), done.returncode, done.stdout + done.stderr, log.with_name("log.end").exists()

@@ -68,7 +68,7 @@ class Of(Timed):
         self.at = pathlib.Path(self.folder())
 
     def trace(self, text: str, name: str = "churn.csv") -> Trace:
-        (self.at / name).write_text(text)
+        (self.at / name).write_text(text, encoding="utf-8")
         return read_trace(self.at / name)
 
 
@@ -300,14 +300,14 @@ class Command(Of):
 
     def done(self, words: str) -> subprocess.CompletedProcess[str]:
         paths = dict(os.environ, PYTHONPATH=os.path.join(TOP, "python"))
-        return subprocess.run(self.words(words), cwd=self.at, env=paths, capture_output=True, text=True)
+        return subprocess.run(self.words(words), cwd=self.at, env=paths, capture_output=True, encoding="utf-8")
 
     def rows(self) -> Iterator[list[str]]:
-        for line in (self.at / "rows.csv").read_text().splitlines():
+        for line in (self.at / "rows.csv").read_text(encoding="utf-8").splitlines():
             yield line.split(",")
 
     def test_sweeps(self) -> None:
-        (self.at / "churn.csv").write_text(CHURN)
+        (self.at / "churn.csv").write_text(CHURN, encoding="utf-8")
         words = "sweep --trace churn.csv --rules hh --daemon least --seeds 2 --processes 1 --csv rows.csv"
         done = self.done(words)
         self.assertEqual((done.returncode, done.stdout, done.stderr), (0, "", ""))
@@ -320,16 +320,16 @@ class Command(Of):
         # played again, also when the graph that was kept is gone
         one = self.done("again rows.csv 2 --output t")
         self.assertEqual((one.returncode, one.stderr), (0, ""))
-        self.assertEqual((self.at / "t.names").read_text(), '"ann"\n"bob"\n"cleo"\n"dan"\n')
+        self.assertEqual((self.at / "t.names").read_text(encoding="utf-8"), '"ann"\n"bob"\n"cleo"\n"dan"\n')
         for path in (self.at / "rows.csv.graphs").iterdir():
             path.unlink()
-        self.assertEqual(self.done("again rows.csv 2").stdout, (self.at / "t").read_text())
+        self.assertEqual(self.done("again rows.csv 2").stdout, (self.at / "t").read_text(encoding="utf-8"))
         table = self.done("compare rows.csv").stdout.splitlines()
         self.assertIn(f"trace churn.csv  trace churn.csv {digest}  least", table[1])
 
     def test_what_is_refused(self) -> None:
-        (self.at / "churn.csv").write_text(CHURN)
-        (self.at / "bad.csv").write_text("1,join,a\n0,leave,a\n")
+        (self.at / "churn.csv").write_text(CHURN, encoding="utf-8")
+        (self.at / "bad.csv").write_text("1,join,a\n0,leave,a\n", encoding="utf-8")
         for words, status, why in (
             ("--trace bad.csv", 2, "bad.csv: line 2: the time 0 is before 1, that of line 1: times never go back"),
             ("--trace none.csv", 3, "none.csv: No such file or directory"),
@@ -347,17 +347,17 @@ class Command(Of):
         ):
             done = self.done(f"sweep {words} --seeds 1")
             self.assertEqual((done.returncode, done.stdout, done.stderr), (status, "", f"! {why}\n"), words)
-        self.assertEqual((self.at / "churn.csv").read_text(), CHURN)
+        self.assertEqual((self.at / "churn.csv").read_text(encoding="utf-8"), CHURN)
         self.assertIn("required: --graph, --trace, or a plan", self.done("sweep").stderr)
-        (self.at / "plan.json").write_text(json.dumps({"graphs": ["ring:3"]}))
+        (self.at / "plan.json").write_text(json.dumps({"graphs": ["ring:3"]}), encoding="utf-8")
         self.assertIn("--trace stands in the plan", self.done("sweep plan.json --trace churn.csv").stderr)
 
     def test_a_trace_that_has_changed(self) -> None:
-        (self.at / "churn.csv").write_text(CHURN)
+        (self.at / "churn.csv").write_text(CHURN, encoding="utf-8")
         words = "sweep --trace churn.csv --seeds 2 --processes 1 --csv rows.csv"
         self.assertEqual(self.done(words).stderr, "")
         before = (self.at / "rows.csv").read_bytes()
-        (self.at / "churn.csv").write_text(CHURN.replace("3.5", "3"))
+        (self.at / "churn.csv").write_text(CHURN.replace("3.5", "3"), encoding="utf-8")
         done = self.done(f"{words} --resume")
         why = "! rows.csv: line 2: the row is of another churn.csv, which has changed since\n"
         self.assertEqual((done.returncode, done.stderr), (2, why))
@@ -369,7 +369,7 @@ class Command(Of):
         )
 
     def test_an_interrupt_leaves_whole_rows(self) -> None:
-        (self.at / "churn.csv").write_text(CHURN)
+        (self.at / "churn.csv").write_text(CHURN, encoding="utf-8")
         words = "sweep --trace churn.csv --partners --processes 2 --csv rows.csv"
         paths = dict(os.environ, PYTHONPATH=os.path.join(TOP, "python"))
         command = self.words(f"{words} --seeds 100000")

@@ -233,7 +233,7 @@ class ByHand(Timed):
         lines = [*STALE, at(4.5, move("d", {"c": ["d", False]}, pointer="c")), '{"unlink": ["c", "d"]}']
         self.assertTrue(conform(lines, "manne", views=True, transcript=path))
         audit(path)
-        self.assertIn("point 4 3 = ok", pathlib.Path(path).read_text())
+        self.assertIn("point 4 3 = ok", pathlib.Path(path).read_text(encoding="utf-8"))
 
 
 class Hints(Timed):
@@ -374,7 +374,7 @@ class Command(Timed):
         more = dict(os.environ, PYTHONPATH=os.path.join(TOP, "python"))
         text = "".join(f"{line}\n" for line in log)
         command = [sys.executable, "-m", "rudekpi", "conform", *words]
-        done = subprocess.run(command, input=text, env=more, capture_output=True, text=True)
+        done = subprocess.run(command, input=text, env=more, capture_output=True, encoding="utf-8")
         self.assertEqual((done.returncode, done.stderr), (status, ""))
         return done.stdout
 
@@ -395,7 +395,7 @@ class Command(Timed):
         self.assertIn("\n  a, seduce: 1 of 1 wrong, 0 by a stale view\n", said)
         self.assertIn("\n  d, seduce: 0 of 1 wrong, 1 by a stale view\n", said)
         self.assertRegex(last, r"^  d +c +1 +1 +0 +1 +1 +1 +3 +3 +3$")
-        rows = pathlib.Path(path).read_text().splitlines()
+        rows = pathlib.Path(path).read_text(encoding="utf-8").splitlines()
         self.assertEqual(rows[0], "reader,read,reads,stale,unknown,median_lines,p95_lines,most_lines,"
                                   "median_time,p95_time,most_time")  # fmt: skip
         self.assertEqual(rows[1:], ["d,c,1,1,0,1,1,1,3.0,3.0,3.0"])
@@ -408,7 +408,7 @@ class Command(Timed):
             (("--age", "x"), "how many lines back is a whole number"),
         ):
             command = [sys.executable, "-m", "rudekpi", "conform", "--rules", "hh", *words]
-            done = subprocess.run(command, input="", env=more, capture_output=True, text=True)
+            done = subprocess.run(command, input="", env=more, capture_output=True, encoding="utf-8")
             self.assertEqual(done.returncode, 2)
             self.assertIn(why, done.stderr)
 
@@ -477,7 +477,7 @@ class StaleNodes(Timed):
         for seed in ("1", "2", "3"):
             words = ("--saw", "--mistake", "late", "--events", "1500", "--seed", seed, "--log", str(path))
             script = os.path.join(TOP, "examples", "own_nodes.py")
-            done = subprocess.run([sys.executable, script, *words], capture_output=True, text=True)
+            done = subprocess.run([sys.executable, script, *words], capture_output=True, encoding="utf-8")
             self.assertEqual((done.returncode, done.stderr), (1, ""))
             found = conform(path, "manne")
             assert found.first is not None

@@ -129,9 +129,10 @@ test("a run goes on from a file, and audits judge files", { skip }, () => {
       byModule(["run", "--from", none], ""), { status: 3, out: "", err: `! read failed\n! ${none}: no such file\n` });
     const script = join(folder, "script");
     writeFileSync(script, more);
-    for (const words of [["run", "--from", file, script], ["run", script, "--from", file, "--workers", "2"],
-      ["run", "--from", file, "-"], [...RUN, script], [...RUN, none], [...RUN, folder], ["audit", folder],
-      [...RUN, `${folder}/a\nb\x7f`], ["run", "--from", none, script], ["run", "--from", file, none]]) {
+    for (const words of [
+           ["run", "--from", file, script], ["run", script, "--from", file, "--workers", "2"],
+           ["run", "--from", file, "-"], [...RUN, script], [...RUN, none], [...RUN, folder], ["audit", folder],
+           [...RUN, `${folder}/a\nb\x7f`], ["run", "--from", none, script], ["run", "--from", file, none]]) {
       assert.deepEqual(byModule(words, more), ended(PROGRAM, words, more), words.join(" "));
     }
   } finally {

@@ -215,7 +215,7 @@ function runOn(files, given, source) {
  * @param {Given} given
  * @param {(source: Source) => Result} task
  */
-function onInput(files, {file = "-"}, task) {
+function onInput(files, { file = "-" }, task) {
   return file === "-" ? task(new Source(files, null)) : ofFile(file, () => task(new Source(files, file)));
 }
 
