@@ -78,7 +78,7 @@ class Node:
         for wrote in chosen:
             if wrote is not None:
                 self.write(wrote)
-        for name in self.neighbours:
+        for name in sorted(self.neighbours):
             self.send(name)
         self.net.clock.after(self.chance.uniform(0.5, 1.5), self.wake)
 

@@ -201,6 +201,7 @@ class LogJudge:
             raise ValueError(f"an age is how many lines, 0 or more, and not {age!r}")
         self.rules, self.resync, self.keeps, self.on_divergence = (rules, resync or views, keeps, on_divergence)
         self.views, self.age, self.ignore_extra = views, age, ignore_extra
+        self.skips_bad_lines = resync
         self.made_of = program, engine
         self.named: Optional[Named] = None
         self.has_flags = rules == "manne"
@@ -248,7 +249,7 @@ class LogJudge:
 
     def goes_on(self) -> bool:
         """Whether a bad line is passed over."""
-        return self.resync and self.named is not None
+        return self.skips_bad_lines and self.named is not None
 
     def take_lines(self, lines: Iterator[tuple[int, Any]]) -> None:
         register, edge = log_lines.REGISTER.fullmatch, log_lines.EDGE.fullmatch
@@ -604,7 +605,8 @@ class LogJudge:
     def report(self, number: int, line: Any, judged: Sequence[Judged], refusal: int, bad: Observed) -> None:
         place = LogPosition(number, self.time, line, self.machine.entry())
         found = self.diagnosis.divergence(place, judged, refusal, self.last_seen)
-        crossing = self.running.crossing(number, bad.node, bad.new) if found.kind == "order" else ""
+        is_unexplained = found.kind == "order" and not found.hint
+        crossing = self.running.crossing(number, bad.node, bad.new) if is_unexplained else ""
         found = replace(found, hint=crossing) if crossing else found
         self.divergences += 1
         self.first = self.first or found

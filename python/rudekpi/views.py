@@ -241,7 +241,7 @@ class ViewWords:
         if twice and self.is_allowed_from(did, view, twice[1].old, twice[1].was):
             return (
                 f"with what {name} held before line {twice[0]} it was allowed: "
-                f"{name} may have moved twice by one view, or lost what it wrote"
+                f"{name} may have moved twice by one view, lost what it wrote, or changed without a line"
             )
         for move in moves_of(star(self.rules, did, view), did.node):
             if self.is_allowed_from(did, view, move.new, move.flag):

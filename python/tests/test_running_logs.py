@@ -138,7 +138,7 @@ class BothEnds(Timed):
         self.assertEqual(notes, [f"line 5: {what} (skipped)"])
         assert found.first is not None
         self.assertEqual((found.divergences, found.crossed, found.stopped, found.events), (1, 1, "", 6))
-        self.assertEqual(found.first.hint, what)
+        self.assertIn("before the link to b went, at line 4, it was allowed", found.first.hint)
         self.assertEqual(found.stand.pairs, 1)
         status, said, _ = ran("--rules", "hh", "--resync", given=text_of(log))
         self.assertEqual(status, 1)

@@ -218,7 +218,7 @@ class ByHand(Timed):
         found = self.first(twice, views=True)
         self.assertIn("it holds that already", found.why)
         self.assertIn(
-            "with what c held before line 6 it was allowed: c may have moved twice by one view, or lost", found.hint
+            "with what c held before line 6 it was allowed: c may have moved twice by one view, lost what it wrote", found.hint
         )
         # c's flag is set without having married: the line of the marriage is missing
         found = self.first([*HEAD, B_SEDUCES, move("c", saw, flag=True)], views=True)
@@ -435,9 +435,9 @@ class StaleNodes(Timed):
         "low": r"stands below n17|no neighbour above it|n17 may only (seduce|marry)",
         "skip": r"its flag is true: n17 may only update .* had to write flag false first: it skipped that",
         "flag": r"flag (true|false) (it was allowed|first): (n17 may have changed|it skipped that, or)"
-        r"|or lost what it wrote",
+        r"|lost what it wrote, or",
         "twice": r"it was allowed: n17 may have moved twice by one view",
-        "unlogged": r"n17 may have changed without a line|or the line is missing|n17 changed without a line",
+        "unlogged": r"n17 may have changed without a line|or the line is missing|n17 changed without a line|or changed without a line",
     }
 
     def told(self, rules: str, mistake: str, seed: int, events: int) -> tuple[Conformance, list[Divergence]]:
