@@ -182,7 +182,9 @@ class Reader {
     }
     const option = options.find((one) => `--${one.name}` === name);
     if (option === undefined) {
-      throw unexpected(name.startsWith("--") ? name : name.slice(0, 2), usage);
+      const flag = name.startsWith("--") ? name : name.slice(0, 2);
+      throw badWords(
+        `unexpected argument '${flag}' found\n\n  tip: to pass '${flag}' as a value, use '-- ${flag}'`, usage);
     }
     this.settle();
     this.last = { option };
@@ -269,19 +271,20 @@ function checkRun(given) {
   /** @param {string[]} names */
   const those = (names) => names.map((name) => shown(RUN_OPTIONS.find((option) => option.name === name)));
   const names = Object.keys(given).filter((name) => name !== "file");
+  const script = given.file === undefined ? "[SCRIPT]" : "<SCRIPT>";
   const beside = names.filter((name) => FRESH.includes(name));
   if (given.from !== undefined && beside.length > 0) {
     const first = names.find((name) => name === "from" || FRESH.includes(name));
     const [against, rest] = first === "from" ? [beside, ["from", "workers"]] : [["from"], [...FRESH, "workers"]];
     throw badWords(
       `the argument '${those([first])[0]}' cannot be used with${listed(those(against))}`,
-      `console run ${those(names.filter((name) => rest.includes(name))).join(" ")}`);
+      `console run ${[...those(names.filter((name) => rest.includes(name))), script].join(" ")}`);
   }
   const missing = given.from === undefined ? those(["rules", "nodes"].filter((name) => !(name in given))) : [];
   if (missing.length > 0) {
     const used = those([...new Set(["rules", "nodes", ...names])]);
     throw badWords(
       `the following required arguments were not provided:\n${missing.map((one) => `  ${one}`).join("\n")}`,
-      `console run ${used.join(" ")}`);
+      `console run ${[...used, script].join(" ")}`);
   }
 }
