@@ -254,12 +254,13 @@ class LogJudge:
     def take_lines(self, lines: Iterator[tuple[int, Any]]) -> None:
         register, edge = log_lines.REGISTER.fullmatch, log_lines.EDGE.fullmatch
         running = self.running
-        for number, line in lines:
+        for here in lines:
             if self.is_over:
                 return
             if running.waits:
                 running.waits.settle()
-            running.here = number, line
+            running.here = here
+            number, line = here
             if type(line) is bytes:
                 found = register(line)
                 if found and self.take_register(number, line, found):
@@ -433,11 +434,13 @@ class LogJudge:
 
     def fault(self, number: int, seen: Observed, has_pointer: bool, has_flag: bool) -> None:
         """Writes registers. Raises `BadLine` if no fault can write them."""
-        refusal = 0
-        # a flag under `hh` first, which is refused before anything is written
-        for word in ("point", "flag") if self.has_flags else ("flag", "point"):
-            if not refusal and (has_pointer if word == "point" else has_flag):
-                refusal = self.machine.edit(word, seen.node, seen.new if word == "point" else int(seen.flag))
+        # a flag under `hh` is refused before anything is written
+        is_flag_first = has_flag and not self.has_flags
+        refusal = self.machine.edit("flag", seen.node, int(seen.flag)) if is_flag_first else 0
+        if has_pointer and not refusal:
+            refusal = self.machine.edit("point", seen.node, seen.new)
+        if has_flag and not refusal:
+            refusal = self.machine.edit("flag", seen.node, int(seen.flag))
         if refusal:
             crossing = self.running.crossing(number, seen.node, seen.new)
             why = f"{refusal_text(refusal)}{crossing and '; '}{crossing}"
