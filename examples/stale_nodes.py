@@ -7,14 +7,14 @@ Each node sends its registers to its neighbours from time to time, and the messa
 moves by the registers that it last received, and writes these into the log as `saw`. Meanwhile the world
 cuts and adds links, and writes registers. The rules are written in this file.
 
-`conform` judges the log by views. With --mistake node n17 breaks the rules:
+`conform` judges the log by views. With --mistake node n17 breaks the rules in one way.
 
-    guard     it abandons a neighbour that may still answer
-    low       it seduces a neighbour below it (manne)
-    skip      it goes on without clearing its flag (manne)
-    flag      its flag falls without a line (manne)
-    twice     it moves twice by what it knew before the first move
-    unlogged  it makes some moves without a line
+- guard: it abandons a neighbour that may still answer.
+- low: it seduces a neighbour below it (manne).
+- skip: it goes on without clearing its flag (manne).
+- flag: its flag falls without a line (manne).
+- twice: it moves twice by what it knew before the first move.
+- unlogged: it makes some moves without a line.
 
 The log is also written to FILE. If FILE is `-`, the log goes to standard output, and there is no verdict.
 """
@@ -64,7 +64,7 @@ class Node:
         self.pointer: Optional[str] = None
         self.flag = False
         self.neighbours: set[str] = set()
-        # of a new neighbour nothing is known until it has sent something
+        # a new neighbour is unknown until it has sent something
         self.copies: dict[str, Held] = {}
         self.mistake = ""
 

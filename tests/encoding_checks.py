@@ -79,7 +79,7 @@ def opens_text(call: ast.Call, name: str, owner: Optional[str]) -> bool:
 
 
 def asks_for_text(call: ast.Call, owner: Optional[str]) -> bool:
-    """`text=True` in any call, as a wrapper passes it on; other values only where a process is started."""
+    """`text=True` in any call, as a wrapper passes it on; other values only in calls that start a process."""
     if any(is_true(word(call, asking)) for asking in ASKING):
         return True
     given = [word(call, asking) for asking in (*ASKING, "errors")]

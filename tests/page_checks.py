@@ -10,7 +10,7 @@ from typing import Iterable, Iterator
 PAGES = {
     "README.md": 155,
     "docs/PROMISES.md": 165,
-    "docs/DECISIONS.md": 250,
+    "docs/DECISIONS.md": 265,
     "docs/ARCHITECTURE.md": 205,
 }
 FUNCTION = re.compile(r"^\s*(?:pub(?:\(crate\))? )?(?:const )?(?:extern \"C\" )?fn (\w+)", re.M)

@@ -475,7 +475,7 @@ class LogJudge:
         self.write(number, seen)
 
     def asked(self, number: int, seen: Observed) -> int:
-        """The rule by which the machine makes a move; else minus its refusal, 0 if it could not be asked."""
+        """The rule of a move that the machine makes; else minus its refusal, 0 if it could not be asked."""
         if seen.node in self.dangling:
             return 0
         if not self.can_be_asked(seen):

@@ -27,13 +27,13 @@ LastMove = Tuple[int, Observed, View]
 class Divergence:
     """A move that the rules do not allow.
 
-    `line` is the number of the log's line, in `file` if several logs are merged. `kind` is one of
+    `line` is the number of the log's line, in `file` if several logs are merged. `kind` is one of these.
 
-        rule      the move breaks the rule on what its node saw
-        view      no state shows what its node saw
-        stale     the rule allows it on what its node saw, and `differences` are what the network was not
-        order     the move has no `saw`, and the machine refuses it at its place in the log
-        together  the rules allow the line's moves one by one, and not at once
+    - rule: the move breaks the rule on what its node saw.
+    - view: no state shows what its node saw.
+    - stale: the rule allows it on what its node saw, and `differences` are what the network was not.
+    - order: the move has no `saw`, and the machine refuses it at its place in the log.
+    - together: the rules allow the line's moves one by one, and not at once.
 
     `rule` is the rule that was enabled, or None, and `targets` are the targets that it allowed: for the kinds
     rule and view on what the node saw, else in the network. `hint` is a guess at the cause. `entries` is how

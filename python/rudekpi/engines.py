@@ -184,7 +184,7 @@ class OfProgram:
 
 
 def base_of(rules: str, count: int, present: Sequence[int]) -> bytes:
-    """The base of a network in which these nodes are present, ascending, without links."""
+    """The base of a network with these nodes, ascending, and without links."""
     nodes = "".join(f"node {node} - 0\n" for node in present)
     return f"matching2 {rules} {count}\nbase 0 spent=0 nodes={len(present)} edges=0\n{nodes}".encode()
 

@@ -20,7 +20,7 @@ class Note:
 
     `kind` is `bad-line`: a line that was passed over; `both-ends`: the first link that both ends logged;
     `removed-link`: a pointer across a link that was just removed; `cut`: a last line that is cut; `stuck`: a
-    node that waits too long; or `no-time`: a file without times, where no wait can be measured.
+    node that waits too long; or `no-time`: in a file without times no wait can be measured.
     """
 
     kind: str

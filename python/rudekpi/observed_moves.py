@@ -54,7 +54,7 @@ def is_allowed(state: State, seen: Observed) -> bool:
 
 
 def rule_of(state: State, seen: Observed) -> Optional[int]:
-    """The number of the rule by which a node may move as observed, or None."""
+    """The number of the rule that lets a node move as observed, or None."""
     if seen.node not in state.neighbours or seen.rule < 0:
         return None
     rule = rules.rule_at(state, seen.node)

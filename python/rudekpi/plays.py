@@ -128,7 +128,7 @@ def play_trace(
     check_daemon(daemon)
     number_within(every, MOST_TURNS, "a number of moves")
     scripted = trace.on(Graph("the network", tuple(net.present), tuple(net.edges)))
-    # an absent node has its name in the network too, perhaps as a text where the trace has a number
+    # an absent node has its name in the network too, perhaps as a text, and in the trace as a number
     known = {str(name): name for name in net.nodes}
     nodes = tuple(known.get(str(name), name) for name in scripted.nodes)
     player = Player(net, daemon)

@@ -1,4 +1,4 @@
-"""Guesses at the stale copy that a node may have read, for moves of which the log does not say what was seen.
+"""Guesses at the stale copy that a node may have read, for moves without a `saw`.
 
 A guess goes back to before one recent line: a write of a neighbour, or the coming or going of a link.
 """

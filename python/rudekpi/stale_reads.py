@@ -16,13 +16,13 @@ from .views import View
 class Difference:
     """How a node's view differs from the network: a register that was seen, or a link.
 
-    `what` is one of
+    `what` is one of these.
 
-        overwritten    the node held this from the line `since` until the line `until`
-        older          it held this, or may have, before the last writes that are kept
-        never-written  no line of the log wrote this
-        no-neighbour   it was seen, but there is no link; `until` is the line at which the link went, if known
-        not-seen       it is a neighbour; `since` is the line at which the link came, if known
+    - overwritten: the node held this from the line `since` until the line `until`.
+    - older: it held this, or may have, before the last writes that are kept.
+    - never-written: no line of the log wrote this.
+    - no-neighbour: it was seen, but there is no link; the link went at line `until`, if that is known.
+    - not-seen: it is a neighbour; the link came at line `since`, if that is known.
 
     `lines` and `time` tell how long ago `until` was, or of not-seen `since`. `pointer` and `flag` are what was
     seen; of not-seen None and False.

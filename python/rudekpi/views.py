@@ -108,7 +108,7 @@ class ViewReader:
 
 
 def key_number(line: int, name: Any, named: Named) -> int:
-    """The number of a name among the keys of an object, where a whole number is a text."""
+    """The number of a name among the keys of an object; a whole number is a text there."""
     if type(name) is str and name not in named.numbers and name.isdecimal() and len(name) < 20:
         found = named.numbers.get(int(name))
         if found and str(int(name)) == name:
@@ -120,7 +120,7 @@ class Rule(Protocol):
     """The rule of one node."""
 
     def verdict(self, did: Observed, view: View) -> int:
-        """The rule's number by which a node may move as observed, on what it saw, `REPAIR` included.
+        """The number of the rule that lets a node move as observed, on what it saw, `REPAIR` included.
 
         0 if it may not; minus a fault's number if no state shows the view.
         """

@@ -5,9 +5,9 @@ usage: python/tests/log_fuzz.py [--count N] [--seed S] [--engine library|program
 
 N logs are judged (10,000 by default). A second reading makes a transcript of all that a log claims, with each
 move by the one rule that writes so, and has it audited. A log passes if both find the same first line, and
-agree that it is no event or that the rules do not allow it. A link that both ends log counts once, and a last
-line that is cut does not count. Some logs say what the nodes saw; they are judged by views too, which changes no
-bad line. Any other error fails. A log that fails is printed, and the exit status is 1.
+agree that it is no event or that the rules do not allow it. A link that both ends log counts once. A last
+line that is cut does not count. Some logs say what the nodes saw. They are judged by views too, which changes
+no bad line. Any other error fails. A log that fails is printed, and the exit status is 1.
 """
 
 from __future__ import annotations
@@ -71,7 +71,7 @@ def log_of(transcript: str, names: Any = "abcdefghijklmnopqrstuvwxyz") -> list[s
 
 
 def with_views(rules: str, lines: list[str], chance: random.Random) -> list[str]:
-    """The same log, where most moves say what their nodes saw, often something stale or wrong."""
+    """The same log, but most moves say what their nodes saw, often something stale or wrong."""
     held: dict[Any, list[Any]] = {}
     near: dict[Any, set[Any]] = {}
     made = []

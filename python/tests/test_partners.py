@@ -56,7 +56,7 @@ class ByHand(Timed):
         self.assertEqual(found[1], found[0])
         # 2 is turned away from 1, abandons 3 (a round, as 1 can no longer move), and marries 1 again (another round)
         self.assertEqual(found[2], PartnerCounts(1, 1, 1, 4, 2, 4, 2, 0))
-        # no step follows the cut: nobody is alone for a step
+        # no step follows the cut: no node is alone for a step
         self.assertEqual(found[3], PartnerCounts(1, 0, 0, 0, 0, 0, 0, 0))
 
     def test_several_movers(self) -> None:
@@ -95,7 +95,7 @@ class ByHand(Timed):
         [*_, last] = counts_of(played("hh", 2, script))
         self.assertEqual(last, PartnerCounts(1, 1, 0, 4, 2, 2, 1, 0))
         # 3 joins after a step, and is alone for the other two only, in the second round; 1 and 2 have one round of two
-        # steps, of which 1 is alone in both
+        # steps; 1 is alone in both
         script = ["link 1 2", "step 1", "join 3", "step 2", "unlink 1 2", "link 2 3", "step 2", "step 3"]
         [first, second] = counts_of(played("hh", 3, script, present=2))
         self.assertEqual(first, PartnerCounts(0, 1, 0, 4, 2, 2, 1, 0))

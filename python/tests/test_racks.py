@@ -173,7 +173,7 @@ class Hits(Timed):
             self.assertEqual((row.steps_alone, row.most_steps_alone), (steps, 2 * many))
 
     def test_a_group_has_faults(self) -> None:
-        # the only other value of a pointer is null, from which the node marries its partner again: one move a node
+        # the only other value of a pointer is null, and then the node marries its partner again: one move a node
         hit, seen = Disturbance(1, racks=RACKS), set()
         for row in rows_of(["hh"], range(10), hit):
             assert row.changes is not None

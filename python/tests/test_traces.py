@@ -277,7 +277,7 @@ class Played(Of):
             self.assertEqual(play_trace(net, trace, "least"), Mended(6, 6))
             self.assertEqual((net.matching().partner("bob"), net.present), ("cleo", ["bob", "cleo", "dan"]))
             before = net.transcript()
-            # ann is no more, so the first line would be refused, and nothing is played
+            # ann is no more, so the first line would be refused, and no event is played
             with self.assertRaisesRegex(ValueError, "churn.csv: line 2: ann is no node of the graph"):
                 play_trace(net, trace)
             self.assertEqual(net.transcript(), before)

@@ -1,4 +1,4 @@
-"""Moves judged by what their nodes saw: verdicts by hand, ages, tallies, bad views, and examples that act on gossip."""
+"""Moves judged by what their nodes saw: verdicts by hand, ages, tallies, bad views, and examples."""
 
 from __future__ import annotations
 
@@ -118,7 +118,7 @@ class ByHand(Timed):
         self.assertEqual(it.text, "b held pointer c, flag false from line 5 until line 6, 3 lines ago, 3 in time")
         self.assertEqual(pickle.loads(pickle.dumps(found)), found)
         told = self.judged(log, views=True)
-        # two reads of b by c, of which both were stale: 2 and 3 lines, and 2.5 and 3 in time
+        # two reads of b by c, both stale: 2 and 3 lines, and 2.5 and 3 in time
         (row,) = told.ages
         self.assertEqual((row.reader, row.read, row.reads, row.stale, row.unknown), ("c", "b", 2, 2, 0))
         self.assertEqual(row.lines, (2, 3, 3))
@@ -249,7 +249,7 @@ class Hints(Timed):
         log = [*HEAD, '{"move": "b", "pointer": "a"}', '{"move": "a", "pointer": "b"}']
         bad = '{"move": "c", "pointer": "b"}'
         self.assertIn("with what b held before line 5 it was allowed", self.hint([*log, bad]))
-        # a fault that changes nothing is a line that no copy can be older than
+        # a fault without a change is a line that no copy can be older than
         for more, is_tried in ((98, True), (99, False)):
             rest = ['{"fault": "d", "pointer": null}'] * more
             self.assertEqual("stale copy of b" in self.hint([*log, *rest, bad]), is_tried, more)
