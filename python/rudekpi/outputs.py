@@ -75,6 +75,9 @@ def identity(path: Optional[str], number: int) -> Optional[Identity]:
         return None
     try:
         found = os.fstat(number) if path == STANDARD else os.stat(path)
-    except (OSError, ValueError):
+    except ValueError:
+        # no path in this locale's encoding, so no file
+        return None
+    except OSError:
         return None if path == STANDARD else os.path.realpath(path)
     return (found.st_dev, found.st_ino) if stat.S_ISREG(found.st_mode) else None

@@ -481,7 +481,9 @@ class StaleNodes(Timed):
             self.assertEqual((done.returncode, done.stderr), (1, ""))
             found = conform(path, "manne")
             assert found.first is not None
-            self.assertEqual((found.first.node, found.first.kind), ("n17", "stale"))
+            # a neighbour that had n17's lock meanwhile may be the first that is named
+            self.assertEqual(found.first.kind, "stale")
+            self.assertIn("n17", [found.first.node, *(it.node for it in found.first.differences)])
             self.assertTrue(
                 any(re.search(r"until line \d+, \d+ lines? ago", it.text) for it in found.first.differences)
             )

@@ -23,7 +23,9 @@ class Tally:
         self.passed = self.failed = self.skipped = 0
 
     def print(self, text: str) -> None:
-        print(text, file=self.out, flush=True)
+        """Prints at once; a letter that the output's encoding lacks is escaped."""
+        encoding = getattr(self.out, "encoding", None) or "utf-8"
+        print(text.encode(encoding, "backslashreplace").decode(encoding), file=self.out, flush=True)
 
     def expect(self, name: str, came: object, wanted: object) -> bool:
         """Counts whether a value is the expected one, and returns it."""
