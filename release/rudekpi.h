@@ -68,7 +68,8 @@ struct rudekpi_verdict;
  * text begins with the base at the end of the run, and the next entry has the next number: so the bytes with
  * the session's text appended are one transcript. Lines are counted from 1 again. Costs an audit, and a look
  * at all names and edges.
- * DONE; DAMAGED if the bytes are no transcript; NO_MEMORY. The slot is empty after an error. */
+ * DONE: the verdict is ACCEPTED, with its counts; DAMAGED: the verdict is a damage, of kind 1 to 5; NO_MEMORY:
+ * it is UNJUDGED, or ACCEPTED if memory ran out afterwards. The slot is empty after an error. */
 uint32_t rudekpi_session_resume(struct rudekpi_slot *slot, const uint8_t *bytes, size_t length,
                                 struct rudekpi_verdict *verdict);
 
@@ -88,7 +89,11 @@ uint32_t rudekpi_session_feed(struct rudekpi_slot *slot, const uint8_t *line, si
 size_t rudekpi_session_length(struct rudekpi_slot *slot);
 
 /* If `out` has room for all unread text, copies that text to the start of `out` and forgets it; otherwise
- * changes nothing. Returns the length of the text, which was copied if its length is at most `room`. */
+ * changes nothing. Returns the length of the text, which was copied if its length is at most `room`.
+ * All that was read of a session that kept its text from the start, in order, with what is unread, is a
+ * transcript at any time: an audit accepts it. After rudekpi_session_resume so is the resumed transcript with
+ * all of this appended. Both are proved call by call (`sessions_stay_transcripts` in crates/written_text) until
+ * rudekpi_session_renumber, and tested of what comes after it. */
 size_t rudekpi_session_read(struct rudekpi_slot *slot, uint8_t *out, size_t room);
 
 /* Ends the session and frees its memory. The slot may be empty before, and is empty afterwards. */
@@ -212,7 +217,8 @@ uint32_t rudekpi_transcript(struct rudekpi_slot *slot, bool keeps);
  * rudekpi_checkpoint writes it, and ends the transcript so far. The second is the base of the same state with
  * the number 0, and begins the next transcript. The network and its moves spent stay as they are, and the next
  * entry is 1. `ended` becomes how many bytes of the unread text end the first transcript: the bytes after them
- * begin the next one. An audit accepts both. Without a kept transcript there is no text, and `ended` is 0.
+ * begin the next one. An audit accepts both; of the next one this is tested, not proved. Without a kept
+ * transcript there is no text, and `ended` is 0.
  * DONE; NO_MEMORY: nothing changed; NO_SESSION. `ended` is 0 if the status is not DONE. Two looks at all names
  * and edges. */
 uint32_t rudekpi_session_renumber(struct rudekpi_slot *slot, size_t *ended);
@@ -333,13 +339,15 @@ enum {
 void rudekpi_audit(const uint8_t *bytes, size_t length, struct rudekpi_verdict *verdict);
 
 /* Joins the verdicts of two texts that meet: the first text ends with all lines of a base, and the next text
- * begins with the same lines. The joined text has that base once. `verdict` is that of the first text, and
- * becomes what rudekpi_audit says of the joined text:
+ * begins with the same lines. The joined text has that base once. The first text may lack that base if it is a
+ * transcript, and the next begins with the base at the end of its run, as a session's text does after
+ * rudekpi_session_resume: then the joined text is both, one after the other. `verdict` is that of the first
+ * text, and becomes what rudekpi_audit says of the joined text:
  * - accepted exactly if both texts are: with the sums of entries and moves, and the sum of epochs less one;
  * - UNJUDGED if the first is unjudged, or if the first is accepted and the next is unjudged;
  * - otherwise the damage of the first text, or else that of the next, `lines` further on.
- * `lines` is how many lines the first text has before that base. Texts that meet in a row are joined in order,
- * two by two, in any grouping. The caller ensures that the texts meet.
+ * `lines` is how many lines the first text has before that base: all of them if it lacks the base. Texts that
+ * meet in a row are joined in order, two by two, in any grouping. The caller ensures that the texts meet.
  * DONE; BAD_ARGUMENT for a kind above 6, or a sum that its field cannot hold: `verdict` is unchanged. Takes no
  * memory and no slot. */
 uint32_t rudekpi_audit_join(struct rudekpi_verdict *verdict, uint64_t lines, const struct rudekpi_verdict *next);

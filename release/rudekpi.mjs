@@ -1170,6 +1170,14 @@ const REASONS = {
   EPERM: "may not be read",
 };
 
+/**
+ * A name as it is shown: a question mark for a control character, so that it stays in one line.
+ * @param {string} name
+ */
+function shownName(name) {
+  return name.replace(/[\0-\x1f\x7f]/g, "?");
+}
+
 /** Why a task ended early: the lines that it reports, and its status. */
 class TaskEnd extends Error {
   /**
@@ -1194,7 +1202,7 @@ function ofFile(path, act) {
     return act();
   } catch (wrong) {
     if (wrong instanceof StreamFault && wrong.way === "read") {
-      throw new TaskEnd(FAILED, "! read failed", `! ${path}: ${REASONS[wrong.code] ?? wrong.code}`);
+      throw new TaskEnd(FAILED, "! read failed", `! ${shownName(path)}: ${REASONS[wrong.code] ?? "cannot be read"}`);
     }
     throw wrong;
   }
@@ -1332,19 +1340,40 @@ class ScriptRun {
 }
 
 /**
- * Runs the script on standard input and writes its transcript. Throws `TaskEnd`, `StreamFault` or
- * `MemoryError`.
+ * Runs the source's script and writes its transcript. Throws `TaskEnd`, `StreamFault` or `MemoryError`.
  * @param {Files} files
  * @param {Given} given
+ * @param {Source} source
  */
-function run(files, given) {
+function runOn(files, given, source) {
   const script = new ScriptRun(files, sessionOf(files, given));
-  const source = new Source(files, null);
   for (let piece = source.read(); piece.length > 0; piece = source.read()) {
     script.take(piece);
   }
   script.end();
   return OK;
+}
+
+/**
+ * Does a task on a file, or on standard input if none is given or `-`. Throws what the task throws; `TaskEnd`
+ * if the file can't be read.
+ * @template Result
+ * @param {Files} files
+ * @param {Given} given
+ * @param {(source: Source) => Result} task
+ */
+function onInput(files, { file = "-" }, task) {
+  return file === "-" ? task(new Source(files, null)) : ofFile(file, () => task(new Source(files, file)));
+}
+
+/**
+ * Runs the script in a file or on standard input, and writes its transcript. Throws `TaskEnd`, `StreamFault` or
+ * `MemoryError`.
+ * @param {Files} files
+ * @param {Given} given
+ */
+function run(files, given) {
+  return onInput(files, given, (source) => runOn(files, given, source));
 }
 
 /**
@@ -1373,9 +1402,8 @@ function judged(source) {
  * @param {Files} files
  * @param {Given} given
  */
-function audit(files, {file = "-"}) {
-  const judge = () => judged(new Source(files, file === "-" ? null : file));
-  const { line, status } = file === "-" ? judge() : ofFile(file, judge);
+function audit(files, given) {
+  const { line, status } = onInput(files, given, judged);
   writeAll(files, OUT, bytesOf(line));
   return status;
 }
@@ -1411,9 +1439,9 @@ modules["program/help"] = (() => {
 // The texts of the help: those of `run` and `audit` are the program's own, to the byte.
 
 const TOP_USAGE = "console <COMMAND>";
-const RUN_USAGE = `console run [OPTIONS] --rules <RULES> --nodes <N>
-       console run [OPTIONS] --from <FILE>`;
-const AUDIT_USAGE = "console audit < FILE";
+const RUN_USAGE = `console run [OPTIONS] --rules <RULES> --nodes <N> [SCRIPT]
+       console run [OPTIONS] --from <FILE> [SCRIPT]`;
+const AUDIT_USAGE = "console audit [FILE]";
 
 const TOP_HELP = `Keeps a maximal matching on a changing network by self-stabilising rules, and
 writes a numbered transcript of every event and its reply.
@@ -1421,8 +1449,8 @@ writes a numbered transcript of every event and its reply.
 Usage: console <COMMAND>
 
 Commands:
-  run    Runs the script on standard input and writes its transcript.
-  audit  Judges the transcript on standard input and prints one line.
+  run    Runs a script and writes its transcript.
+  audit  Judges a transcript and prints one line.
   help   Print this message or the help of the given subcommand(s)
 
 Options:
@@ -1433,15 +1461,18 @@ Here \`console\` is \`node rudekpi.mjs\`, on any system. The program console, fo
 Linux on x86-64, also has picture, epochs and storm.
 
 Examples:
-  node rudekpi.mjs run --rules hh --nodes 4 < script > transcript
-  node rudekpi.mjs audit < transcript
+  node rudekpi.mjs run --rules hh --nodes 4 script > transcript
+  node rudekpi.mjs audit transcript
   node rudekpi.mjs help run
 `;
 
-const RUN_HELP = `Runs the script on standard input and writes its transcript.
+const RUN_HELP = `Runs a script and writes its transcript.
 
-Usage: console run [OPTIONS] --rules <RULES> --nodes <N>
-       console run [OPTIONS] --from <FILE>
+Usage: console run [OPTIONS] --rules <RULES> --nodes <N> [SCRIPT]
+       console run [OPTIONS] --from <FILE> [SCRIPT]
+
+Arguments:
+  [SCRIPT]  The file of the script; default: -, standard input
 
 Options:
       --rules <RULES>  Hsu and Huang's, or Manne's [possible values: hh, manne]
@@ -1476,23 +1507,26 @@ Commands of a script, one per line; A and B are names of nodes:
   checkpoint    writes the state as a base, from which a transcript may begin
 
 Examples:
-  console run --rules manne --nodes 4 < script > transcript
-  console run --rules manne --nodes 60000 --workers 4 < script > transcript
-  console run --rules hh --nodes 9 --present 4 < script > transcript
+  console run --rules manne --nodes 4 script > transcript
+  console run --rules manne --nodes 60000 --workers 4 script > transcript
+  console run --rules hh --nodes 9 --present 4 script > transcript
   printf 'link 1 2\\nstep 1\\nstep 2\\n' | console run --rules hh --nodes 2
-  console run --from transcript < more > rest; cat transcript rest > whole
+  console run --from transcript more > rest; cat transcript rest > whole
 
 Exit status:
   0  the whole script was run
   1  the transcript of --from is refused
   2  bad words, a P above N (! bad present), or a line that is not a command
-  3  a read or a write failed, or FILE cannot be opened
+  3  a read or a write failed, or a file cannot be opened
   4  memory ran out, or the log is full
 `;
 
-const AUDIT_HELP = `Judges the transcript on standard input and prints one line.
+const AUDIT_HELP = `Judges a transcript and prints one line.
 
-Usage: console audit < FILE
+Usage: console audit [FILE]
+
+Arguments:
+  [FILE]  The file of the transcript; default: -, standard input
 
 Options:
   -h, --help  Print help
@@ -1503,14 +1537,14 @@ base must be that of the state reached. Otherwise the first wrong line is named,
 with the first of these that is wrong: its form, its number, its reply.
 
 Examples:
-  console audit < transcript
-  console run --rules hh --nodes 4 < script | console audit
+  console audit transcript
+  console run --rules hh --nodes 4 script | console audit
 
 Exit status:
   0  accepted
   1  refused
   2  bad words
-  3  a read or a write failed
+  3  a read or a write failed, or FILE cannot be opened
   4  memory ran out
 `;
 
@@ -1551,7 +1585,7 @@ const RUN_OPTIONS = [
 ];
 /** @type {Command[]} */
 const COMMANDS = [
-  { name: "run", help: RUN_HELP, usage: RUN_USAGE, options: RUN_OPTIONS, files: 0 },
+  { name: "run", help: RUN_HELP, usage: RUN_USAGE, options: RUN_OPTIONS, files: 1 },
   { name: "audit", help: AUDIT_HELP, usage: AUDIT_USAGE, options: [], files: 1 },
 ];
 
@@ -1702,7 +1736,9 @@ class Reader {
     }
     const option = options.find((one) => `--${one.name}` === name);
     if (option === undefined) {
-      throw unexpected(name.startsWith("--") ? name : name.slice(0, 2), usage);
+      const flag = name.startsWith("--") ? name : name.slice(0, 2);
+      throw badWords(
+        `unexpected argument '${flag}' found\n\n  tip: to pass '${flag}' as a value, use '-- ${flag}'`, usage);
     }
     this.settle();
     this.last = { option };
@@ -1788,21 +1824,22 @@ function listed(shown) {
 function checkRun(given) {
   /** @param {string[]} names */
   const those = (names) => names.map((name) => shown(RUN_OPTIONS.find((option) => option.name === name)));
-  const names = Object.keys(given);
+  const names = Object.keys(given).filter((name) => name !== "file");
+  const script = given.file === undefined ? "[SCRIPT]" : "<SCRIPT>";
   const beside = names.filter((name) => FRESH.includes(name));
   if (given.from !== undefined && beside.length > 0) {
     const first = names.find((name) => name === "from" || FRESH.includes(name));
     const [against, rest] = first === "from" ? [beside, ["from", "workers"]] : [["from"], [...FRESH, "workers"]];
     throw badWords(
       `the argument '${those([first])[0]}' cannot be used with${listed(those(against))}`,
-      `console run ${those(names.filter((name) => rest.includes(name))).join(" ")}`);
+      `console run ${[...those(names.filter((name) => rest.includes(name))), script].join(" ")}`);
   }
   const missing = given.from === undefined ? those(["rules", "nodes"].filter((name) => !(name in given))) : [];
   if (missing.length > 0) {
     const used = those([...new Set(["rules", "nodes", ...names])]);
     throw badWords(
       `the following required arguments were not provided:\n${missing.map((one) => `  ${one}`).join("\n")}`,
-      `console run ${used.join(" ")}`);
+      `console run ${[...used, script].join(" ")}`);
   }
 }
 
