@@ -218,7 +218,8 @@ class ByHand(Timed):
         found = self.first(twice, views=True)
         self.assertIn("it holds that already", found.why)
         self.assertIn(
-            "with what c held before line 6 it was allowed: c may have moved twice by one view, lost what it wrote", found.hint
+            "with what c held before line 6 it was allowed: c may have moved twice by one view, lost what it wrote",
+            found.hint,
         )
         # c's flag is set without having married: the line of the marriage is missing
         found = self.first([*HEAD, B_SEDUCES, move("c", saw, flag=True)], views=True)
@@ -437,7 +438,8 @@ class StaleNodes(Timed):
         "flag": r"flag (true|false) (it was allowed|first): (n17 may have changed|it skipped that, or)"
         r"|lost what it wrote, or",
         "twice": r"it was allowed: n17 may have moved twice by one view",
-        "unlogged": r"n17 may have changed without a line|or the line is missing|n17 changed without a line|or changed without a line",
+        "unlogged": r"n17 may have changed without a line|or the line is missing|n17 changed without a line"
+        r"|or changed without a line",
     }
 
     def told(self, rules: str, mistake: str, seed: int, events: int) -> tuple[Conformance, list[Divergence]]:
