@@ -207,7 +207,7 @@ class Files(Of):
         scripted = trace.on(trace.start())
         self.assertIs(trace.on(trace.start()), scripted)
         copied = pickle.loads(pickle.dumps(trace))
-        self.assertEqual((copied, copied.known, copied.on(trace.start())), (trace, {}, scripted))
+        self.assertEqual((copied, dict(copied.known), copied.on(trace.start())), (trace, {}, scripted))
 
 
 class Played(Of):
