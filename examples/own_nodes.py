@@ -138,12 +138,12 @@ class Node(Peer):
                 self.copies.update({name: held[name] for name in self.copies})
                 near = seen if self.mistake == "stale" else dict(self.copies)
                 chosen = self.choose(near, chance)
-                own = self.pointer, self.flag
+                own = self.pointer, self.flag, set(self.copies)
                 if self.mistake == "late":
                     self.let_go(names)
                     await asyncio.sleep(0.001)
-                # what else wrote its registers meanwhile is no mistake of the node
-                self.move(chosen if own == (self.pointer, self.flag) else None, near)
+                # what else changed its registers or links meanwhile is no mistake of the node
+                self.move(chosen if own == (self.pointer, self.flag, set(self.copies)) else None, near)
                 if self.mistake == "late":
                     continue
             else:
