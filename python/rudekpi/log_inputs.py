@@ -168,7 +168,7 @@ def is_quiet(file: Any) -> bool:
 
 
 def is_readable(file: Any, seconds: Optional[float]) -> bool:
-    """Whether a read would not wait; waits for that at most so many seconds."""
+    """Whether a read would not wait. Waits for that, at most these seconds."""
     if seconds is None or isinstance(file, io.TextIOBase):
         return True
     try:
