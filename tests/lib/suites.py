@@ -5,11 +5,11 @@ from __future__ import annotations
 import dataclasses
 import re
 import shutil
-import subprocess
 import time
-from typing import Callable, Iterable, Optional, TextIO
+from typing import Callable, Optional, Sequence, TextIO
 
 from .packages import PACKAGES
+from .side_by_side import PAUSE, Run, signals_noted, stop
 
 ENDED = re.compile(r"^(\d+) passed, (\d+) failed(?:, (\d+) skipped)?$")
 # As `node --test` prints them, for people and in the Test Anything Protocol.
@@ -31,6 +31,10 @@ class Suite:
     needs: tuple[str, ...] = ()
     # returns what else is missing, or nothing
     lacks: Callable[[], str] = str
+    # more words for each of the commands that together are the whole suite; the short run is one command
+    parts: tuple[tuple[str, ...], ...] = ((),)
+    # measures time, so no other suite may run meanwhile
+    alone: bool = False
 
     def missing(self) -> str:
         """In one line; empty if the suite can run."""
@@ -84,26 +88,80 @@ def judged(text: str, status: Optional[int]) -> Result:
     return Result(passed, failed or 1, skipped, f"{text}it ended with status {status}\n")
 
 
-def run_suite(words: Iterable[str], seconds: float) -> Result:
-    began = time.monotonic()
-    try:
-        ran = subprocess.run(
-            [*words],
-            stdin=subprocess.DEVNULL,
-            stdout=subprocess.PIPE,
-            stderr=subprocess.STDOUT,
-            timeout=seconds,
-            encoding="utf-8",
-            errors="replace",
-        )
-        result = judged(ran.stdout, ran.returncode)
-    except subprocess.TimeoutExpired as late:
-        said = late.stdout or b""
-        result = judged(said.decode(errors="replace") if isinstance(said, bytes) else said, None)
-    except OSError as error:
-        result = judged(f"not run: {error}\n", 1)
-    result.seconds = time.monotonic() - began
-    return result
+def together(results: Sequence[Result]) -> Result:
+    """The result of a suite from those of its parts. What several parts skip counts once."""
+    return Result(
+        sum(result.passed for result in results),
+        sum(result.failed for result in results),
+        list(dict.fromkeys(reason for result in results for reason in result.skipped)),
+        "".join(result.text for result in results if result.failed),
+    )
+
+
+@dataclasses.dataclass
+class Job:
+    """A suite with its commands, one a part, and what became of those that have ended."""
+
+    suite: Suite
+    commands: list[list[str]]
+    results: list[Result] = dataclasses.field(default_factory=list)
+    began: Optional[float] = None
+
+
+class Schedule:
+    """Runs suites side by side, at most `places` commands at a time; then, one by one, those that run alone."""
+
+    def __init__(self, jobs: Sequence[Job], places: int, seconds: float, report: Report) -> None:
+        self.places, self.seconds, self.report = places, seconds, report
+        in_turn = sorted(jobs, key=lambda job: job.suite.alone)
+        self.waiting = [(job, words) for job in in_turn for words in job.commands]
+        self.running: dict[Run, Job] = {}
+
+    def has_place(self, job: Job) -> bool:
+        if job.suite.alone:
+            return not self.running
+        return len(self.running) < self.places
+
+    def begin(self, job: Job, words: list[str]) -> None:
+        if job.began is None:
+            job.began = time.monotonic()
+            self.report.begin(job.suite.name, job.suite.about, self.seconds)
+        try:
+            self.running[Run(words, self.seconds)] = job
+        except OSError as error:
+            self.add(job, judged(f"not run: {error}\n", 1))
+
+    def add(self, job: Job, result: Result) -> None:
+        """Notes the result of a part. Reports the suite if it was the last one."""
+        job.results.append(result)
+        if len(job.results) == len(job.commands):
+            whole = together(job.results)
+            whole.seconds = time.monotonic() - (job.began or 0)
+            self.report.add(job.suite.name, whole)
+
+    def look(self) -> None:
+        """Notes which commands have ended."""
+        for run, job in list(self.running.items()):
+            ended = run.ended()
+            if ended is not None:
+                del self.running[run]
+                self.add(job, judged(ended.text, ended.status))
+
+    def run(self) -> Optional[int]:
+        """Returns the signal that broke it off, if one did. Leaves no process either way."""
+        with signals_noted() as signals:
+            try:
+                while (self.waiting or self.running) and not signals:
+                    while self.waiting and self.has_place(self.waiting[0][0]):
+                        self.begin(*self.waiting.pop(0))
+                    self.look()
+                    time.sleep(PAUSE)
+                if self.running:
+                    names = dict.fromkeys(job.suite.name for job in self.running.values())
+                    self.report.print(f"broken off: {', '.join(names)}")
+            finally:
+                stop(self.running)
+        return signals[0] if signals else None
 
 
 def package_of(reason: str) -> Optional[str]:
