@@ -260,6 +260,8 @@ class RandomTimes(Timed):
                 while handled[0] <= number:
                     time.sleep(0.00002)
 
+        self.addCleanup(sys.setswitchinterval, sys.getswitchinterval())
+        sys.setswitchinterval(0.00002)
         before = signal.signal(signal.SIGUSR1, handler)
         self.addCleanup(signal.signal, signal.SIGUSR1, before)
         sender = threading.Thread(target=send, daemon=True)
