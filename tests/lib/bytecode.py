@@ -1,28 +1,19 @@
-"""One folder of compiled Python modules for all processes of a run of tests."""
+"""Compiled modules of the Python client for the many processes that tests start."""
 
 from __future__ import annotations
 
-import contextlib
+import compileall
 import os
-import tempfile
-from typing import Iterator
 
-FOLDER = "PYTHONPYCACHEPREFIX"
-NONE = "PYTHONDONTWRITEBYTECODE"
+from .places import TOP
 
 
-@contextlib.contextmanager
-def shared_bytecode() -> Iterator[None]:
-    """Has processes started in the block read and write compiled modules in a folder that is removed afterwards.
+def compile_client() -> None:
+    """Compiles the client's modules that have changed, into their `__pycache__`, and has children write none.
 
-    Nothing is written next to the sources. Without such a folder each process would compile the client anew,
-    which takes half of a short command's time. A folder that the environment names is used as it is.
+    Without them each process would compile the client anew: half of a short command's time. Children write
+    none, as a module that is cut by a test's limit of the size of files would stay. If the folder can't be
+    written, all is only slower.
     """
-    with contextlib.ExitStack() as after:
-        never = os.environ.pop(NONE, None)
-        if never is not None:
-            after.callback(os.environ.__setitem__, NONE, never)
-        if FOLDER not in os.environ:
-            os.environ[FOLDER] = after.enter_context(tempfile.TemporaryDirectory())
-            after.callback(os.environ.pop, FOLDER)
-        yield
+    compileall.compile_dir(str(TOP / "python" / "rudekpi"), quiet=2)
+    os.environ["PYTHONDONTWRITEBYTECODE"] = "1"
