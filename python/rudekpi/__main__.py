@@ -6,7 +6,7 @@ import difflib
 import os
 import subprocess
 import sys
-from typing import Optional, Sequence
+from typing import Iterator, Optional, Sequence
 
 from . import __version__, outputs, streams
 from .errors import Ended, RudekpiError
@@ -38,6 +38,20 @@ def handed_on(words: Sequence[str]) -> int:
         except OSError as error:
             raise OSError(error.errno, error.strerror, program) from None
     return subprocess.run([program, *words]).returncode
+
+
+def files_read(words: Sequence[str]) -> Iterator[str]:
+    """The files that the program reads: its words without options, and that of `--from`."""
+    rest = iter(words)
+    for word in rest:
+        if not word.startswith("--"):
+            yield word
+            continue
+        name, has_value, value = word.partition("=")
+        if not has_value:
+            value = next(rest, "")
+        if name == "--from":
+            yield value
 
 
 def told(text: object, status: int) -> int:
@@ -80,7 +94,7 @@ def begun(words: Sequence[str]) -> int:
         return done(words)
     if word in OF_PROGRAM:
         try:
-            outputs.refuse_clashes([], ["-"])
+            outputs.refuse_clashes([], ["-", *files_read(rest)])
         except ValueError as error:
             return told(error, BAD_WORDS)
         return handed_on(words)

@@ -125,12 +125,28 @@ class Clashes(Folder):
             ([*SWEEP], "g.txt"),
             (["sweep", "p.json", "--processes", "1"], "p.json"),
             (["worst", "--graph", "g.txt"], "g.txt"),
+            (["audit", "t"], "t"),
+            (["picture", "--entry", "1", "t"], "t"),
+            (["epochs", "t"], "t"),
+            (["run", "--rules", "hh", "--nodes", "2", "script"], "script"),
+            (["run", "--rules", "hh", "--nodes=2", "./script"], "script"),
+            (["run", "--from", "t", "script"], "t"),
+            (["run", "--from=t", "script"], "script"),
+            (["storm", "--rules", "hh", "--nodes", "2", "names", "script"], "script"),
+            (["storm", "--from", "t", "script"], "t"),
         ):
-            self.refuse_appending(
-                words,
-                given,
-                f"standard output would be written over {given}, which is read",
-            )
+            read = "./script" if "./script" in words else given
+            self.refuse_appending(words, given, f"standard output would be written over {read}, which is read")
+
+    def test_a_value_that_is_a_file_s_name(self) -> None:
+        """The value of an option is no file, but for `--from`."""
+        (self.at / "script").write_text("link 1 2\n", encoding="utf-8")
+        environment = dict(os.environ, PYTHONPATH=os.path.join(TOP, "python"))
+        with open(self.at / "hh", "wb") as out:
+            words = [sys.executable, "-m", "rudekpi", "run", "--rules", "hh", "--nodes", "2", "script"]
+            done = subprocess.run(words, stdout=out, stderr=subprocess.PIPE, cwd=self.at, env=environment)
+        self.assertEqual((done.returncode, done.stderr), (0, b""))
+        self.assertEqual((self.at / "hh").read_text(encoding="utf-8"), "matching hh 2\n1 link 1 2 = ok\n")
 
     def test_standard_streams_that_are_one_file(self) -> None:
         why = "standard output would be written over standard input, which is read"
