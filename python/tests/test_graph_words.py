@@ -63,9 +63,11 @@ class Words(Timed):
         self.assertEqual((done.returncode, done.stderr), (0, f"! {path}: its weights are left out\n"))
 
     def test_names_of_files_with_other_digits(self) -> None:
-        path = self.file("a\u00b210.txt", "1 2\n")
+        # these bytes in every locale
+        path = self.file(os.fsdecode("a\u00b210.txt".encode()), "1 2\n")
         done = rudekpi("compare", "--graph", path, "--seeds", "1", "--processes", "1")
-        self.assertEqual((done.returncode, done.stderr, done.stdout.count(path)), (0, "", 2))
+        shown = path.encode("utf-8", "surrogateescape").decode()
+        self.assertEqual((done.returncode, done.stderr, done.stdout.count(shown)), (0, "", 2))
 
     def test_a_sweep_of_too_many_experiments(self) -> None:
         for seeds in ("99999999999", "9" * 40):

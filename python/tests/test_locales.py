@@ -1,4 +1,7 @@
-"""Files and streams are UTF-8 in every locale: also in one that has another encoding, or ASCII alone."""
+"""Files and streams are UTF-8 in every locale: also in one that has another encoding, or ASCII alone.
+
+`tests/shipped` runs all tests of the client in a locale of ASCII too.
+"""
 
 from __future__ import annotations
 
@@ -79,14 +82,6 @@ class Locales(Timed):
 
     def test_of_latin_letters(self) -> None:
         self.expect_the_same(self.latin())
-
-    def test_the_suite(self) -> None:
-        """A part of the client's tests, in a locale of ASCII."""
-        words = [sys.executable, os.path.join(TOP, "tests", "client"), "--here", "--engine", "program"]
-        words += ["--program", os.environ["RUDEKPI_CONSOLE"], "test_names.", "test_graph_files", "test_given.Ways"]
-        done = subprocess.run(words, env={**os.environ, **ASCII}, stdin=subprocess.DEVNULL, capture_output=True)
-        self.assertEqual(done.returncode, 0, done.stdout.decode()[-2000:])
-        self.assertIn(b" passed, 0 failed", done.stdout)
 
 
 if __name__ == "__main__":
