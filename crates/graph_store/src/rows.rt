@@ -1,6 +1,6 @@
 //! Neighbour lists, ascending.
 
-ghost use Rattle.std.specs.Prelude.{◌≡◌, ◌++◌, filter, map, nat_lt, ◌≢◌, ℕ, ◌+◌, ◌<◌, ◌≤◌, [], length, replicate, slice_set, IfOk, OnOk, MatchResult, IsTrue, slice_index, ◌-◌, ◌/◌, ◌∷◌, take, drop, true, false};
+ghost use Rattle.std.specs.Prelude.{◌≡◌, ◌++◌, filter, map, nat_lt, ◌≢◌, ℕ, ◌+◌, ◌<◌, ◌≤◌, [], length, replicate, slice_set, IfOk, IfSome, IsNone, OnOk, MatchResult, IsTrue, slice_index, ◌-◌, ◌/◌, ◌∷◌, take, drop, true, false};
 ghost use Rattle.std.specs.List.{insert, remove};
 ghost use Rattle.std.specs.List.Sorted.{IsStrictlyIncreasing};
 ghost use Rattle.std.specs.Vec.{vec_len, vec_capacity};
@@ -83,13 +83,31 @@ fn narrow(row: &[Node], name: Node) -> usize
     part.start
 }
 
-/// `Ok`: the name's index in a row. `Err`: the index where the name belongs. Costs a binary search.
+/// The index where a name belongs that is below or above all names of a row; `None` if it is neither.
+/// Two looks, which can be made at once; those of a binary search wait for each other.
+#[inline(always)]
+fn find_outer_gap(row: &[Node], name: Node) -> Option<usize>
+    requires { IsStrictlyIncreasing row.now }
+    ensures gap { IfSome result (IsGapFor row.now name) }
+    ensures some { IsNone result → 0 < length row.now }
+{
+    if row.is_empty() || name < row[0] {
+        return Some(0);
+    }
+    if row[row.len() - 1] < name {
+        return Some(row.len());
+    }
+    None
+}
+
+/// `Ok`: the name's index in a row. `Err`: the index where the name belongs.
+/// Costs two looks, and a binary search if the name is between the first and the last one.
 pub fn find_place(row: &[Node], name: Node) -> Result<usize, usize>
     requires { IsStrictlyIncreasing row.now }
     ensures { MatchResult result (IsPlaceOf row.now name) (IsGapFor row.now name) }
 {
-    if row.is_empty() {
-        return Err(0);
+    if let Some(gap) = find_outer_gap(row, name) {
+        return Err(gap);
     }
     let near = narrow(row, name);
     if row[near] == name {
@@ -99,14 +117,14 @@ pub fn find_place(row: &[Node], name: Node) -> Result<usize, usize>
     }
 }
 
-/// The index where a new name belongs. Costs a binary search.
+/// The index where a new name belongs. Costs as much as `find_place`.
 pub fn find_gap(row: &[Node], name: Node) -> usize
     requires rising { IsStrictlyIncreasing row.now }
     requires apart { has row.now name ≡ false }
     ensures { IsGapFor row.now name result }
 {
-    if row.is_empty() {
-        return 0;
+    if let Some(gap) = find_outer_gap(row, name) {
+        return gap;
     }
     let near = narrow(row, name);
     near + usize::from(row[near] < name)
