@@ -13,6 +13,8 @@
 //! ```
 #![tactic(auto)]
 
+mod pointer;
 mod table;
 
+pub use pointer::Pointer;
 pub use table::Registers;

@@ -3,6 +3,7 @@
 ghost use Rattle.std.specs.Prelude.{◌≡◌, ◌<◌, ◌≤◌, length, IfOk};
 ghost use Rattle.rule_machine.specs.State.{blank, pointer_of, flag_of, with_pointer, with_flag, holds_at, points};
 
+use crate::Pointer;
 use rule_machine::{Node, Want};
 use std::alloc::Global;
 use std::marker::Model;
@@ -10,7 +11,7 @@ use std::marker::Model;
 /// Each node's pointer and married flag. Contracts see both tables.
 #[derive(Drop)]
 pub struct Registers {
-    pointers: Vec<Option<Node>>,
+    pointers: Vec<Pointer>,
     flags: Vec<bool>,
 }
 
@@ -32,7 +33,7 @@ impl Registers {
         ensures { IfOk result (λ r. r ≡ blank size) }
     {
         let places = size as usize + 1;
-        let pointers = vec![in alloc; None; places]?;
+        let pointers = vec![in alloc; Pointer::new(None); places]?;
         let flags = vec![in alloc; false; places]?;
         Ok(Registers { pointers, flags })
     }
@@ -42,7 +43,7 @@ impl Registers {
         requires { v < length self.now.pointers }
         ensures { result ≡ pointer_of self.now v }
     {
-        self.pointers[v.place()]
+        self.pointers[v.place()].target()
     }
 
     /// A node's married flag.
@@ -54,7 +55,7 @@ impl Registers {
     }
 
     /// All pointers, each at its name's index; index 0 belongs to no node.
-    pub fn pointers(&self) -> &[Option<Node>]
+    pub fn pointers(&self) -> &[Pointer]
         ensures { result.now ≡ self.now.pointers }
     {
         &self.pointers
@@ -65,8 +66,8 @@ impl Registers {
         ensures { result ≡ points self.now v w }
     {
         match self.pointers.get(v.place()) {
-            Some(Some(target)) => *target == w,
-            _ => false,
+            Some(pointer) => pointer.is_at(w),
+            None => false,
         }
     }
 
@@ -86,7 +87,7 @@ impl Registers {
         requires { v < length self.old.pointers }
         ensures { self.new ≡ with_pointer self.old v target }
     {
-        self.pointers[v.place()] = target;
+        self.pointers[v.place()] = Pointer::new(target);
     }
 
     /// Writes a node's married flag.

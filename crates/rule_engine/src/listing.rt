@@ -36,10 +36,8 @@ fn pair_at(registers: &Registers, v: Node) -> Option<Edge>
     requires { IsTrue (is_lower_end registers.now v) }
     ensures { result ≡ pair_above v (answered_by registers.now v) }
 {
-    match registers.pointers().get(v.place()) {
-        Some(Some(w)) => Edge::new(v, *w),
-        _ => None,
-    }
+    let pointer = registers.pointers().get(v.place())?;
+    Edge::new(v, pointer.target()?)
 }
 
 fn pairs_of(alloc: Global, registers: &Registers, ends: &[Node]) -> Result<Vec<Edge>, Want>
