@@ -1,6 +1,7 @@
 -- One mark more, and one less.
 use Rattle.enabled_set.proofs.Prelude.{◌≡◌, ℕ, ◌+◌, ◌-◌, ◌<◌, ◌≤◌, Bool, true, false, List, length, get_or, set, replicate, sym, ap, ◌∙◌, ⊎_elim, arith, cases_lt, false_from_ne_true, true≢false, get_or_read, get_or-set_other, get_or-set_same, length-replicate, length-set, is_in, members, tally, AreListed}
 use Rattle.std.proofs.Common.{◌≢◌}
+use Rattle.std.proofs.lemmas.List.{set-get_or}
 use Rattle.enabled_set.proofs.Changes.{tally_nobody, total_few, total_some}
 use Rattle.enabled_set.proofs.PassCounts.{tally_put}
 use Rattle.enabled_set.proofs.Members.{inside, length-members}
@@ -9,6 +10,10 @@ use Rattle.enabled_set.proofs.Stretches.{on_here, same_there}
 -- no name is marked
 pub none_listed : (n : ℕ) (bits : List Bool) (names : List ℕ) → 1 ≤ n → n ≤ 65536 → bits ≡ replicate n false → length names ≡ n → AreListed bits names 0
 none_listed n bits names some few empty room = grind (arith, length-replicate, tally, tally_nobody)
+
+-- a mark of a marked name changes nothing
+pub marked_already : (bits : List Bool) (v : ℕ) → is_in bits v ≡ true → bits ≡ set bits v true
+marked_already bits v on = sym (ap (set bits v) (sym on) ∙ set-get_or bits v false)
 
 -- if one is not marked, there is room for it
 pub room_left : (bits : List Bool) (names : List ℕ) (count v : ℕ) → AreListed bits names count → v < length bits → is_in bits v ≡ false → count < length bits

@@ -15,17 +15,19 @@ pub struct Marks {
     is_marked: Vec<bool>,
     names: Vec<Node>,
     count: usize,
+    // If this is set, each name is marked, and to mark one reads no table.
+    all: bool,
 }
 
 impl Model for Marks {
     ghost use Rattle.std.specs.Prelude.{Bool, List};
-    ghost use Rattle.enabled_set.specs.MarkedNames.{AreListed};
+    ghost use Rattle.enabled_set.specs.MarkedNames.{AreListed, AreAllMarkedIf};
 
     ghost Value = { List Bool };
 
     ghost view = { λ m. m.is_marked.items };
 
-    ghost invariant = { λ m. AreListed m.is_marked.items m.names.items m.count };
+    ghost invariant = { λ m. AreListed m.is_marked.items m.names.items m.count × AreAllMarkedIf m.all m.is_marked.items };
 }
 
 #[inline(always)]
@@ -50,6 +52,7 @@ impl Marks {
             is_marked,
             names,
             count: 0,
+            all: false,
         })
     }
 
@@ -61,13 +64,17 @@ impl Marks {
         self.is_marked.get(v.place()).copied().unwrap_or(false)
     }
 
-    /// Marks a name; the name may be marked already. At most three writes.
+    /// Marks a name; the name may be marked already.
+    /// At most three writes; one look between `mark_all` and the next `take`.
     #[inline(always)]
     pub fn mark(&mut self, v: Node)
         requires { v < length self.old }
         ensures { self.new ≡ slice_set self.old v true }
     {
         let place = v.place();
+        if self.all {
+            return;
+        }
         if self.is_marked[place] {
             return;
         }
@@ -85,6 +92,7 @@ impl Marks {
         for below in 0..last as u16 {
             self.mark(node_above(below));
         }
+        self.all = true;
     }
 
     /// Unmarks and returns the name that was marked last; `None` if no name is marked.
@@ -99,6 +107,7 @@ impl Marks {
         if self.count == 0 {
             return None;
         }
+        self.all = false;
         self.count -= 1;
         let v = self.names[self.count];
         self.is_marked[v.place()] = false;

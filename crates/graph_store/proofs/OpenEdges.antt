@@ -1,5 +1,5 @@
 -- How many edges are open, as an edge comes or goes and as a name turns.
-use Rattle.graph_store.proofs.Prelude.{◌≡◌, ℕ, ◌+◌, ◌<◌, ◌≤◌, min, max, Bool, true, false, cond, ◌&&◌, List, [], length, count_by, replicate, get_or, set, refl, sym, ap, ap₂, ◌∙◌, ⊎_elim, arith, ltb, Vec, Global, from_bool, range_with_len, length-range_with_len, length-filter, count_by-le-length, and_parts, cases_lt, cases_eq, ltb-true, get_or-set_other, get_or-set_same, length-replicate, Network, IsNetwork, PairSet, edge, names, linked, present, count_agree, zeros, count_filter, one_node_changes, count_with, count_without, count_empty, count_all_few, EdgeStance, Shut, are_open, end_at, open_among, CountsOpenEdges, contents, has, row_at, edges_of, network_of, IsRows, IsStore}
+use Rattle.graph_store.proofs.Prelude.{◌≡◌, ℕ, ◌+◌, ◌<◌, ◌≤◌, min, max, Bool, true, false, cond, ◌&&◌, List, [], length, count_by, replicate, get_or, set, refl, sym, ap, ap₂, ◌∙◌, ⊎_elim, arith, ltb, Vec, Global, from_bool, range_with_len, length-range_with_len, length-filter, count_by-le-length, and_parts, cases_lt, cases_eq, ltb-true, get_or-set_other, get_or-set_same, length-replicate, get_or-replicate, get_or_past, Network, IsNetwork, PairSet, edge, names, linked, present, count_agree, zeros, count_filter, one_node_changes, count_with, count_without, count_empty, count_all_few, EdgeStance, Shut, are_open, end_at, open_among, CountsOpenEdges, contents, has, row_at, edges_of, network_of, IsRows, IsStore}
 use Rattle.std.specs.FinMap as map
 use Rattle.graph_store.proofs.Contents.{row_read, length_contents}
 use Rattle.graph_store.proofs.Pairs.{has-edges_of}
@@ -28,14 +28,19 @@ pub open_number : (ends read : List EdgeStance) (a b number : ℕ) (opens : Bool
 open_number ends read a b number opens is tells all = is ∙ bool_number opens ∙ ap (λ t. cond t 1 0) (tells ∙ ap (λ l. are_open (end_at l a) (end_at l b)) all)
 
 -- no edge of no rows is open
-pub none_counted : (size count : ℕ) → CountsOpenEdges size (replicate (size + 1) []) (replicate (size + 1) Shut) 0
+pub none_counted : (size count : ℕ) → CountsOpenEdges size (replicate (size + 1) []) (replicate (size + 1) Shut) true 0
 none_counted size count = record {
   places = length-replicate (size + 1) Shut;
   counted = ap (λ (net : Network). open_among (replicate (size + 1) Shut) net.edges) (empty_network size count) ∙ count_empty (λ e. are_open (end_at (replicate (size + 1) Shut) e.0) (end_at (replicate (size + 1) Shut) e.1));
+  shut = λ _ v.
+      ⊎_elim
+      (λ (lt : v < size + 1). get_or-replicate (size + 1) v Shut Shut lt)
+      (λ (le : size + 1 ≤ v). get_or_past (replicate (size + 1) Shut) v Shut (let len = length-replicate (size + 1) Shut in omega arith))
+      (cases_lt v (size + 1));
 }
 
 -- no more edges are open than there are
-pub few_open : (size : ℕ) (roll : List Bool) (edges : ℕ) (rows : List (List ℕ)) (ends : List EdgeStance) (count : ℕ) → IsStore size roll edges rows → CountsOpenEdges size rows ends count → count ≤ 1048576
+pub few_open : (size : ℕ) (roll : List Bool) (edges : ℕ) (rows : List (List ℕ)) (ends : List EdgeStance) {all_shut : Bool} (count : ℕ) → IsStore size roll edges rows → CountsOpenEdges size rows ends all_shut count → count ≤ 1048576
 few_open size roll edges rows ends count store counts =
     let few = count_all_few (λ e. are_open (end_at ends e.0) (end_at ends e.1)) (edges_of rows) in
     let is = counts.counted in

@@ -1,5 +1,5 @@
 -- Each node's stance on its edges, and which edges are open by the stances of their ends.
-use Rattle.std.specs.Prelude.{◌≡◌, ℕ, ◌+◌, Bool, true, false, not, ◌&&◌, List, length, count_by, slice_index_or, refl}
+use Rattle.std.specs.Prelude.{◌≡◌, ℕ, ◌+◌, Bool, true, false, not, ◌&&◌, List, length, count_by, slice_index_or, IsTrue, refl}
 use Rattle.std.specs.Coded.{Coded, code_by, coded×, coded_bool}
 use Rattle.std.specs.FinMap as map
 use Rattle.rule_machine.specs.Network.{Network, PairSet}
@@ -54,7 +54,13 @@ open_among ends edges = count_by (λ e. are_open (end_at ends e.0) (end_at ends 
 abbrev pub open_edges : Network → List EdgeStance → ℕ
 open_edges net ends = open_among ends net.edges
 
--- `ends` has an entry for each name, and `count` edges of the rows are open
-pub record CountsOpenEdges (size : ℕ) (rows : List (List ℕ)) (ends : List EdgeStance) (count : ℕ) : Type 0 where
+-- no name has an open edge, and none would have one
+abbrev pub AreAllShut : List EdgeStance → Type 0
+AreAllShut ends = (v : ℕ) → end_at ends v ≡ Shut
+
+-- `ends` has an entry for each name, and `count` edges of the rows are open. If the flag is set, each stance
+-- is `Shut`.
+pub record CountsOpenEdges (size : ℕ) (rows : List (List ℕ)) (ends : List EdgeStance) (all_shut : Bool) (count : ℕ) : Type 0 where
   pub places : length ends ≡ size + 1
   pub counted : open_among ends (edges_of rows) ≡ count
+  pub shut : IsTrue all_shut → AreAllShut ends

@@ -32,6 +32,8 @@ pub struct EdgeStore {
     edges: u32,
     ends: Vec<EdgeStance>,
     open_edges: u32,
+    // If this is set, each stance is `Shut`, and no stance is read.
+    all_shut: bool,
     // A guess, checked before use: the last reserved edge's index in the row of the edge's first end.
     last_gap: usize,
 }
@@ -47,7 +49,7 @@ impl Model for EdgeStore {
 
     ghost view = { λ s. graph_of s.nodes s.here s.rows.items s.ends.items };
 
-    ghost invariant = { λ s. IsStore s.nodes s.here s.edges (contents s.rows.items) × CountsOpenEdges s.nodes (contents s.rows.items) s.ends.items s.open_edges };
+    ghost invariant = { λ s. IsStore s.nodes s.here s.edges (contents s.rows.items) × CountsOpenEdges s.nodes (contents s.rows.items) s.ends.items s.all_shut s.open_edges };
 }
 
 impl EdgeStore {
@@ -83,6 +85,7 @@ impl EdgeStore {
             edges: 0,
             ends,
             open_edges: 0,
+            all_shut: true,
             last_gap: 0,
         })
     }
@@ -180,6 +183,7 @@ impl EdgeStore {
         ensures room { self.new.room ≡ self.old.room }
     {
         if self.ends[v.place()] != end {
+            self.all_shut = false;
             self.open_edges = turn_end(
                 &self.rows[v.place()],
                 &mut self.ends,
@@ -264,7 +268,7 @@ impl EdgeStore {
     {
         put_both(&mut self.rows, a, place_in_a, b, place_in_b);
         self.edges += 1;
-        self.open_edges += u32::from(are_open(&self.ends, a, b));
+        self.open_edges += u32::from(are_open(&self.ends, self.all_shut, a, b));
     }
 
     /// Inserts the edge between two nodes: a binary search and a shift in both rows.
@@ -330,7 +334,7 @@ impl EdgeStore {
         let place_in_b = self.find_edge(b, a);
         take_both(&mut self.rows, a, place_in_a, b, place_in_b);
         self.edges -= 1;
-        self.open_edges -= u32::from(are_open(&self.ends, a, b));
+        self.open_edges -= u32::from(are_open(&self.ends, self.all_shut, a, b));
     }
 
     /// Removes the edge between two nodes: binary searches and a shift in both rows.

@@ -1,7 +1,7 @@
 //! Stances on edges, and open edges.
 
-ghost use Rattle.std.specs.Prelude.{◌≡◌, ◌+◌, ◌<◌, ◌≤◌, All, IfOk, length, replicate, slice_set};
-ghost use Rattle.graph_store.specs.EdgeStances.{are_open, end_at, open_to};
+ghost use Rattle.std.specs.Prelude.{◌≡◌, ◌+◌, ◌<◌, ◌≤◌, All, IfOk, IsTrue, length, replicate, slice_set};
+ghost use Rattle.graph_store.specs.EdgeStances.{are_open, end_at, open_to, AreAllShut};
 ghost use Rattle.graph_store.specs.declared.ends.EdgeStance.TheVariants.{Shut};
 
 use rule_machine::{Node, Want};
@@ -36,13 +36,15 @@ pub fn shut_ends(alloc: Global, count: usize) -> Result<Vec<EdgeStance>, Want>
     vec![in alloc; EdgeStance::Shut; count]
 }
 
+/// Whether the edge of `a` and `b` is open. Reads no stance if all are `Shut`.
 #[inline(always)]
-pub fn are_open(ends: &[EdgeStance], a: Node, b: Node) -> bool
+pub fn are_open(ends: &[EdgeStance], all_shut: bool, a: Node, b: Node) -> bool
+    requires shut { IsTrue all_shut → AreAllShut ends.now }
     requires low { a < length ends.now }
     requires high { b < length ends.now }
     ensures { result ≡ are_open (end_at ends.now a) (end_at ends.now b) }
 {
-    ends[a.place()].is_open_to(ends[b.place()])
+    !all_shut && ends[a.place()].is_open_to(ends[b.place()])
 }
 
 fn open_to(row: &[Node], ends: &[EdgeStance], end: EdgeStance) -> u32

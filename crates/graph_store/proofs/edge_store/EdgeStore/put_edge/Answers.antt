@@ -48,6 +48,7 @@ invariant_of-self c =
         counted =
             open_linked c.self.inside.ends.items c.args.self.now.network.edges _ c.args.a c.args.b c.self.inside.open_edges ends.fresh is (ap (open_among c.self.inside.ends.items) (sym seen) ∙ c.self.invariant.1.counted)
             ∙ ap (λ n. c.self.inside.open_edges + n) (sym one);
+        shut = c.self.invariant.1.shut;
       },
     )
 

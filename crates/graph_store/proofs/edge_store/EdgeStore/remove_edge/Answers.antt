@@ -77,7 +77,7 @@ invariant_of-self c =
     let seen = ap (λ (g : Graph). g.network.edges) c.self.view_is in
     let less = open_unlinked c.self.inside.ends.items net.edges _ c.args.a c.args.b c.self.inside.open_edges c.requires (ap (λ (n : Network). n.edges) (unlinked_now c).1) (ap (open_among c.self.inside.ends.items) (sym seen) ∙ c.self.invariant.1.counted) in
     let one = open_number c.self.inside.ends.items c.deref.result.now c.args.a c.args.b c.from.result c.are_open.result c.from.ensures c.are_open.ensures c.deref.ensures.value in
-    ((unlinked_now c).0, record { places = c.self.invariant.1.places; counted = omega (arith, less, one) })
+    ((unlinked_now c).0, record { places = c.self.invariant.1.places; counted = omega (arith, less, one); shut = c.self.invariant.1.shut })
 
 pub returns-clause-network : goal.returns-clause-network
 returns-clause-network c = (unlinked_now c).1

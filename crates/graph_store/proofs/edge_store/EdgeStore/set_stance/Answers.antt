@@ -1,4 +1,4 @@
-use Rattle.graph_store.proofs.Prelude.{◌≡◌, ◌≤◌, ◌<◌, ◌+◌, ℕ, List, length, count_by, set, get_or, arith, ap, sym, subst, ◌∙◌, All, IsTrue, with_items_is, length-set, present, EdgeStance, Graph, are_open, end_at, open_among, contents, row_at, edges_of, network_of, present_range}
+use Rattle.graph_store.proofs.Prelude.{◌≡◌, ◌≤◌, ◌<◌, ◌+◌, ℕ, List, length, count_by, set, get_or, arith, true≢false, ap, sym, subst, ◌∙◌, All, IsTrue, with_items_is, length-set, present, EdgeStance, Graph, are_open, end_at, open_among, contents, row_at, edges_of, network_of, present_range}
 use Rattle.graph_store.proofs.OpenEdges.{few_open, few_in_row, open_at_few, open_turned, row_named}
 use Rattle.graph_store.proofs.Store.{all_present}
 use Rattle.graph_store.proofs.edge_store.EdgeStore.set_stance.Goals as goal
@@ -66,5 +66,6 @@ invariant_of-self c =
       record {
         places = ap length is ∙ length-set ends c.args.v c.args.end ∙ c.self.invariant.1.places;
         counted = ap (λ l. open_among l (edges_of rows)) is ∙ (let same : open_among (set ends c.args.v c.args.end) (edges_of rows) ≡ c.turn_end-self-inside.result = omega (arith, number, turns, counted) in same);
+        shut = λ shut. absurd (true≢false (sym shut));
       },
     )

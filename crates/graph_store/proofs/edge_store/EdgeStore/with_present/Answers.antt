@@ -1,4 +1,4 @@
-use Rattle.graph_store.proofs.Prelude.{◌≡◌, ◌+◌, [], replicate, ap, sym, subst, ◌∙◌, first_names, contents, network_of, IsStore, CountsOpenEdges, Shut}
+use Rattle.graph_store.proofs.Prelude.{◌≡◌, ◌+◌, [], replicate, true, ap, sym, subst, ◌∙◌, first_names, contents, network_of, IsStore, CountsOpenEdges, Shut}
 use Rattle.graph_store.proofs.OpenEdges.{none_counted}
 use Rattle.graph_store.proofs.Store.{empty_network, empty_store}
 use Rattle.graph_store.proofs.Results.{from_map_err}
@@ -11,8 +11,8 @@ invariant_of-result c =
     let ends : c.in_ok-ends.ends.items ≡ replicate (c.args.nodes + 1) Shut = from_map_err (λ ends. ends.items ≡ replicate (c.args.nodes + 1) Shut) c.shut_ends.result c.map_err-3.result c.in_ok-ends.ends _ c.in_ok-ends.was c.map_err-3.ensures.cases c.shut_ends.ensures in (
       subst (λ roll. IsStore c.args.nodes roll 0 (contents c.in_ok-rows.rows.items)) (sym here)
           (subst (IsStore c.args.nodes (first_names c.args.nodes c.args.present) 0) (sym rows) (empty_store c.args.nodes c.args.present c.if-nodes-gt-MAX_NAME.false)),
-      subst (λ l. CountsOpenEdges c.args.nodes (contents c.in_ok-rows.rows.items) l 0) (sym ends)
-          (subst (λ l. CountsOpenEdges c.args.nodes l (replicate (c.args.nodes + 1) Shut) 0) (sym rows) (none_counted c.args.nodes c.args.present)),
+      subst (λ l. CountsOpenEdges c.args.nodes (contents c.in_ok-rows.rows.items) l true 0) (sym ends)
+          (subst (λ l. CountsOpenEdges c.args.nodes l (replicate (c.args.nodes + 1) Shut) true 0) (sym rows) (none_counted c.args.nodes c.args.present)),
     )
 
 pub returns-clause-ok : goal.returns-clause-ok
