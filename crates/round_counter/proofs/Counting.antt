@@ -1,0 +1,171 @@
+-- A counter before an entry and after it.
+use Rattle.round_counter.proofs.Prelude.{◌≡◌, ℕ, ◌+◌, ◌≤◌, Bool, true, false, cond, not, ◌&&◌, List, [], ◌∷◌, ◌++◌, append_assoc, length, min, filter, is_some, IsTrue, refl, sym, ap, ◌∙◌, subst, inl, inr, ⊎_elim, arith, and_parts, true≢false, false_from_ne_true, cases_Bool, nil_from_length, IsIn, in_kept, kept_in, is_in, members, names, present, in_names, names_present, Network, State, IsState, Event, Reply, Accepted, Refused, Moves, Shown, EnabledAre, Pairs, Counts, Moved, after_moves, followed, RuleTable, rule_at, enabled_names, Entry, IsLocal, stays_pending, round_turn, rounds_by, rounds_from, rounds_in, RoundCounter, HasCounted, MayFollow, start_after, log_after, pending_names}
+use Rattle.round_counter.proofs.Bits.{member_in, in_member}
+use Rattle.round_counter.proofs.Serving.{is_served, unserved_stays}
+
+both_ways : (a b : Bool) → (a ≡ true → b ≡ true) → (b ≡ true → a ≡ true) → a ≡ b
+both_ways a b h k = grind arith
+
+-- tests that agree on a list keep the same of it
+kept_alike : (p q : ℕ → Bool) (xs : List ℕ) → ((v : ℕ) → IsIn v xs → p v ≡ q v) → filter p xs ≡ filter q xs
+kept_alike p q [] h = refl
+kept_alike p q (x ∷ xs) h = let first = h x (inl refl) in let rest = kept_alike p q xs (λ v there. h v (inr there)) in grind arith
+
+kept_twice : (p q : ℕ → Bool) (xs : List ℕ) → filter p (filter q xs) ≡ filter (λ x. q x && p x) xs
+kept_twice p q [] = refl
+kept_twice p q (x ∷ xs) = let rest = kept_twice p q xs in grind arith
+
+-- ---- the enabled nodes as a set
+
+on_names : (t : RuleTable) (s : State) (e : List Bool) (v : ℕ) → members e ≡ enabled_names t s → is_in e v ≡ true → IsTrue (present s.network v) × IsTrue (is_some (rule_at t s v))
+on_names t s e v is on =
+    let kept = kept_in (λ v. is_some (rule_at t s v)) v (names s.network) (subst (λ xs. IsIn v xs) is (member_in e v on)) in
+    (names_present s.network v kept.1, kept.0)
+
+on_is : (t : RuleTable) (s : State) (e : List Bool) (v : ℕ) → members e ≡ enabled_names t s → IsTrue (present s.network v) → is_in e v ≡ is_some (rule_at t s v)
+on_is t s e v is here =
+    both_ways (is_in e v) (is_some (rule_at t s v))
+    (λ on. (on_names t s e v is on).1)
+    (λ rule. in_member e v (subst (λ xs. IsIn v xs) (sym is) (in_kept (λ v. is_some (rule_at t s v)) v (names s.network) rule (in_names s.network v here))))
+
+-- ---- before a step
+
+pub begun : (t : RuleTable) (start : State) (log : List Entry) (s : State) (e : List Bool) (old new : RoundCounter) → old.is_new ≡ true → new.is_new ≡ false → new.rounds ≡ old.rounds → ((v : ℕ) → is_in new.pending v ≡ is_in e v) → members e ≡ enabled_names t s → HasCounted t start log s old → HasCounted t start log s new
+begun t start log s e old new whole ready rounds same is it =
+    let pending : pending_names t s new ≡ pending_names t s old =
+    ap (λ b. cond b (enabled_names t s) (filter (is_in new.pending) (names s.network))) ready
+    ∙ kept_alike (is_in new.pending) (λ v. is_some (rule_at t s v)) (names s.network) (λ v there. same v ∙ on_is t s e v is (names_present s.network v there))
+    ∙ sym (ap (λ b. cond b (enabled_names t s) (filter (is_in old.pending) (names s.network))) whole) in
+    record {
+      rounds = rounds ∙ it.rounds;
+      later = λ rest. it.later rest ∙ ap (λ n. n + rounds_from t s (pending_names t s old) rest) (sym rounds) ∙ ap (λ xs. new.rounds + rounds_from t s xs rest) (sym pending);
+      enabled = λ _ v there. on_names t s e v is (sym (same v) ∙ there);
+    }
+
+-- ---- after an entry
+
+-- a counter at its beginning
+pub fresh : (t : RuleTable) (s : State) (c : RoundCounter) → c.rounds ≡ 0 → c.is_new ≡ true → HasCounted t s [] s c
+fresh t s c none new = record {
+  rounds = none;
+  later = λ rest. add_zero (rounds_in t s rest) ∙ ap (λ n. n + rounds_in t s rest) (sym none) ∙ ap (λ b. c.rounds + rounds_from t s (cond b (enabled_names t s) (filter (is_in c.pending) (names s.network))) rest) (sym new);
+  enabled = λ runs v there. absurd (true≢false (sym new ∙ runs));
+}
+  where
+    add_zero : (n : ℕ) → n ≡ 0 + n
+    add_zero n = omega arith
+
+-- an entry that is no disturbance, by what it does to the pending nodes
+one_more : (t : RuleTable) (start : State) (log : List Entry) (s : State) (event : Event) (reply : Reply) (old new : RoundCounter) → HasCounted t start log s old → new.rounds ≡ old.rounds + (rounds_by t (pending_names t s old) reply (followed s event reply)).0 → pending_names t (followed s event reply) new ≡ (rounds_by t (pending_names t s old) reply (followed s event reply)).1 → (new.is_new ≡ false → (v : ℕ) → IsTrue (is_in new.pending v) → IsTrue (present (followed s event reply).network v) × IsTrue (is_some (rule_at t (followed s event reply) v))) → HasCounted t start (log ++ (event, reply) ∷ []) (followed s event reply) new
+one_more t start log s event reply old new it rounds pending enabled = record {
+  rounds = rounds ∙ end old.rounds (rounds_by t (pending_names t s old) reply (followed s event reply)).0 ∙ sym (it.later ((event, reply) ∷ []));
+  later = λ rest. ap (rounds_in t start) (append_assoc log ((event, reply) ∷ []) rest) ∙ it.later ((event, reply) ∷ rest)
+      ∙ join old.rounds (rounds_by t (pending_names t s old) reply (followed s event reply)).0 _
+      ∙ ap (λ n. n + rounds_from t (followed s event reply) (rounds_by t (pending_names t s old) reply (followed s event reply)).1 rest) (sym rounds)
+      ∙ ap (λ xs. new.rounds + rounds_from t (followed s event reply) xs rest) (sym pending);
+  enabled = enabled;
+}
+  where
+    end : (a b : ℕ) → a + b ≡ a + (b + 0)
+    end a b = omega arith
+
+    join : (a b c : ℕ) → a + (b + c) ≡ (a + b) + c
+    join a b c = omega arith
+
+add_none : (n : ℕ) → n ≡ n + 0
+add_none n = omega arith
+
+-- a question, or a refusal
+pub unchanged : (t : RuleTable) (start : State) (log : List Entry) (s : State) (event : Event) (reply : Reply) (c : RoundCounter) → ((moves : List Moved) → reply ≡ Moves moves → ⊥) → (reply ≡ Accepted → ⊥) → HasCounted t start log s c → HasCounted t (start_after start reply (followed s event reply)) (log_after log event reply) (followed s event reply) c
+unchanged t start log s event (Moves moves) c quiet calm it = absurd (quiet moves refl)
+unchanged t start log s event Accepted c quiet calm it = absurd (calm refl)
+unchanged t start log s event (Refused refusal) c quiet calm it = one_more t start log s event (Refused refusal) c c it (add_none c.rounds) refl it.enabled
+unchanged t start log s event (Shown target) c quiet calm it = one_more t start log s event (Shown target) c c it (add_none c.rounds) refl it.enabled
+unchanged t start log s event (EnabledAre nodes) c quiet calm it = one_more t start log s event (EnabledAre nodes) c c it (add_none c.rounds) refl it.enabled
+unchanged t start log s event (Pairs pairs) c quiet calm it = one_more t start log s event (Pairs pairs) c c it (add_none c.rounds) refl it.enabled
+unchanged t start log s event (Counts counts) c quiet calm it = one_more t start log s event (Counts counts) c c it (add_none c.rounds) refl it.enabled
+
+-- a disturbance
+pub begins_anew : (t : RuleTable) (start : State) (log : List Entry) (s : State) (event : Event) (reply : Reply) (c : RoundCounter) → reply ≡ Accepted → c.rounds ≡ 0 → c.is_new ≡ true → HasCounted t (start_after start reply (followed s event reply)) (log_after log event reply) (followed s event reply) c
+begins_anew t start log s event reply c is none new = subst (λ r. HasCounted t (start_after start r (followed s event r)) (log_after log event r) (followed s event r) c) (sym is) (fresh t (followed s event Accepted) c none new)
+
+-- ---- a step
+
+module _ (t : RuleTable) (local : IsLocal t) (s : State) (good : IsState s) (moves : List Moved) (good' : IsState (after_moves s moves)) (e : List Bool) (is : members e ≡ enabled_names t (after_moves s moves)) (old : RoundCounter) (was : (v : ℕ) → IsTrue (is_in old.pending v) → IsTrue (present s.network v) × IsTrue (is_some (rule_at t s v))) (ready : old.is_new ≡ false) (bits : List Bool) (each : (u : ℕ) → is_in bits u ≡ (is_in old.pending u && not (is_served s.network e moves u))) where
+  stays_in : (u : ℕ) → is_in bits u ≡ (is_in old.pending u && stays_pending t moves (after_moves s moves) u)
+  stays_in u =
+      ⊎_elim
+      (λ (on : is_in old.pending u ≡ true).
+      each u ∙ ap (λ b. is_in old.pending u && b) (unserved_stays t local s moves e u good good' (on_is t (after_moves s moves) e u is (was u on).0) (was u on).1))
+      (λ (off : is_in old.pending u ≡ false). each u ∙ none (is_in old.pending u) _ _ off)
+      (cases_Bool (is_in old.pending u))
+    where
+      none : (a b c : Bool) → a ≡ false → (a && b) ≡ (a && c)
+      none a b c off = grind arith
+
+  -- the nodes left pending are the members
+  left_are : filter (is_in bits) (names s.network) ≡ filter (stays_pending t moves (after_moves s moves)) (pending_names t s old)
+  left_are =
+      kept_alike (is_in bits) (λ u. is_in old.pending u && stays_pending t moves (after_moves s moves) u) (names s.network) (λ u there. stays_in u)
+      ∙ sym (kept_twice (stays_pending t moves (after_moves s moves)) (is_in old.pending) (names s.network))
+      ∙ ap (λ b. filter (stays_pending t moves (after_moves s moves)) (cond b (enabled_names t s) (filter (is_in old.pending) (names s.network)))) (sym ready)
+
+  left_enabled : (v : ℕ) → IsTrue (is_in bits v) → IsTrue (present s.network v) × IsTrue (is_some (rule_at t (after_moves s moves) v))
+  left_enabled v on =
+      let both = and_parts (is_in old.pending v) (stays_pending t moves (after_moves s moves) v) (sym (stays_in v) ∙ on) in
+      ((was v both.0).0, (and_parts _ _ both.1).1)
+
+none_left : (bits : List Bool) (net : Network) → length (members bits) ≡ 0 → filter (is_in bits) (names net) ≡ []
+none_left bits net none =
+    let empty = nil_from_length (members bits) none in
+    kept_alike (is_in bits) (λ v. false) (names net) (λ v there. false_from_ne_true (is_in bits v) (λ on. subst (λ xs. IsIn v xs) empty (member_in bits v on))) ∙ nothing (names net)
+  where
+    nothing : (xs : List ℕ) → filter (λ (v : ℕ). false) xs ≡ []
+    nothing [] = refl
+    nothing (x ∷ xs) = nothing xs
+
+turn_some : (t : RuleTable) (s : State) (xs : List ℕ) (v : ℕ) → IsIn v xs → round_turn t s xs ≡ (0, xs)
+turn_some t s [] v there = absurd there
+turn_some t s (x ∷ xs) v there = refl
+
+first_member : (xs : List ℕ) → 1 ≤ length xs → (v : ℕ) × IsIn v xs
+first_member [] some = absurd (omega (arith, some))
+first_member (x ∷ xs) some = (x, inl refl)
+
+-- what the entry does to the counter, if the network and the enabled nodes are these then
+abbrev pub Follows : Network → List Bool → Reply → RoundCounter → RoundCounter → Type 0
+Follows net e reply old new = (t : RuleTable) (start : State) (log : List Entry) (s : State) (event : Event) → IsLocal t → IsState s → IsState (followed s event reply) → net ≡ (followed s event reply).network → members e ≡ enabled_names t (followed s event reply) → MayFollow reply old → HasCounted t start log s old → HasCounted t (start_after start reply (followed s event reply)) (log_after log event reply) (followed s event reply) new
+
+-- a step that leaves none pending
+pub follows_last : (net : Network) (e : List Bool) (reply : Reply) (moves : List Moved) (old new : RoundCounter) → reply ≡ Moves moves → ((u : ℕ) → is_in new.pending u ≡ (is_in old.pending u && not (is_served net e moves u))) → length (members new.pending) ≡ 0 → new.rounds ≡ min (old.rounds + 1) 4294967295 → new.is_new ≡ true → Follows net e reply old new
+follows_last net e reply moves old new at each none more whole = subst (λ r. Follows net e r old new) (sym at) last
+  where
+    last : Follows net e (Moves moves) old new
+    last t start log s event local good good' same is may it =
+        let room = (may refl).1 in
+        let left = sym (left_are t local s good moves good' e is old (it.enabled (may refl).0) (may refl).0 new.pending (λ u. each u ∙ ap (λ n. is_in old.pending u && not (is_served n e moves u)) same)) in
+        let turn = ap (round_turn t (after_moves s moves)) (left ∙ none_left new.pending s.network none) in
+        let one : new.rounds ≡ old.rounds + 1 = omega (arith, more, room) in
+        one_more t start log s event (Moves moves) old new it
+        (one ∙ ap (λ p. old.rounds + p.0) (sym turn))
+        (ap (λ b. cond b (enabled_names t (after_moves s moves)) (filter (is_in new.pending) (names s.network))) whole ∙ ap (λ p. p.1) (sym turn))
+        (λ runs v there. absurd (true≢false (sym whole ∙ runs)))
+
+-- a step that leaves one pending
+pub follows_more : (net : Network) (e : List Bool) (reply : Reply) (moves : List Moved) (old new : RoundCounter) → reply ≡ Moves moves → ((u : ℕ) → is_in new.pending u ≡ (is_in old.pending u && not (is_served net e moves u))) → 1 ≤ length (members new.pending) → new.rounds ≡ old.rounds → new.is_new ≡ old.is_new → Follows net e reply old new
+follows_more net e reply moves old new at each some same_rounds same_new = subst (λ r. Follows net e r old new) (sym at) more
+  where
+    more : Follows net e (Moves moves) old new
+    more t start log s event local good good' same is may it =
+        let ready = (may refl).0 in
+        let by = λ (u : ℕ). each u ∙ ap (λ n. is_in old.pending u && not (is_served n e moves u)) same in
+        let left = left_are t local s good moves good' e is old (it.enabled ready) ready new.pending by in
+        let first = first_member (members new.pending) some in
+        let on = in_member new.pending first.0 first.1 in
+        let here = (left_enabled t local s good moves good' e is old (it.enabled ready) ready new.pending by first.0 on).0 in
+        let there = in_kept (is_in new.pending) first.0 (names s.network) on (in_names s.network first.0 here) in
+        let turn = turn_some t (after_moves s moves) _ first.0 (subst (λ xs. IsIn first.0 xs) left there) in
+        one_more t start log s event (Moves moves) old new it
+        (same_rounds ∙ add_none old.rounds ∙ ap (λ p. old.rounds + p.0) (sym turn))
+        (ap (λ b. cond b (enabled_names t (after_moves s moves)) (filter (is_in new.pending) (names s.network))) (same_new ∙ ready) ∙ left ∙ ap (λ p. p.1) (sym turn))
+        (λ runs v at. left_enabled t local s good moves good' e is old (it.enabled ready) ready new.pending by v at)

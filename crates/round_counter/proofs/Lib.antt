@@ -1,0 +1,4 @@
+pub mod Prelude
+pub mod Bits
+pub mod Serving
+pub mod Counting

@@ -1,0 +1,49 @@
+-- A counter of rounds: what it has counted, and what an entry does to it.
+use Rattle.std.specs.Prelude.{◌≡◌, ℕ, ◌+◌, ◌<◌, Bool, true, false, cond, List, [], ◌∷◌, ◌++◌, filter, is_some, IsTrue}
+use Rattle.enabled_set.specs.Members.{is_in}
+use Rattle.rule_machine.specs.declared.act.Act.{Act}
+use Rattle.rule_machine.specs.declared.event.Event.{Event}
+use Rattle.rule_machine.specs.declared.reply.Reply.{Reply}
+use Rattle.rule_machine.specs.declared.reply.Reply.TheVariants.{Accepted, Moves}
+use Rattle.rule_machine.specs.Network.{names, present}
+use Rattle.rule_machine.specs.State.{State, IsState}
+use Rattle.rule_machine.specs.RuleTable.{RuleTable, rule_at, enabled_names}
+use Rattle.rule_machine.specs.Run.{Entry}
+use Rattle.rules_api.specs.Target.{SameAt}
+use Rattle.round_laws.specs.Rounds.{rounds_in, rounds_from}
+use Rattle.round_counter.specs.declared.counter.RoundCounter.{RoundCounter}
+
+-- a guard depends only on the registers of its node and of the node's neighbours
+abbrev pub IsLocal : RuleTable → Type 0
+IsLocal t = (s u : State) (v : ℕ) (act : Act) → IsState s → IsState u → SameAt s u v → t.guard s v act ≡ t.guard u v act
+
+-- the nodes that a counter has pending in state s, ascending
+abbrev pub pending_names : RuleTable → State → RoundCounter → List ℕ
+pending_names t s c = cond c.is_new (enabled_names t s) (filter (is_in c.pending) (names s.network))
+
+-- A log from `start` led to s, and the counter has counted its complete rounds. Whatever entries come next,
+-- the rounds of all together are those counted and those that the pending nodes complete.
+pub record HasCounted (t : RuleTable) (start : State) (log : List Entry) (s : State) (c : RoundCounter) : Type 0 where
+  pub rounds : c.rounds ≡ rounds_in t start log
+  pub later : (rest : List Entry) → rounds_in t start (log ++ rest) ≡ c.rounds + rounds_from t s (pending_names t s c) rest
+  -- if the set is used, its members are enabled nodes
+  pub enabled : c.is_new ≡ false → (v : ℕ) → IsTrue (is_in c.pending v) → IsTrue (present s.network v) × IsTrue (is_some (rule_at t s v))
+
+abbrev pub is_step : Reply → Bool
+is_step (Moves moves) = true
+is_step reply = false
+
+-- the counter is ready for a reply: before a step it has the pending nodes in its set, and can count further
+abbrev pub MayFollow : Reply → RoundCounter → Type 0
+MayFollow reply c = IsTrue (is_step reply) → (c.is_new ≡ false) × (c.rounds < 4294967295)
+
+-- Where counting begins, after an entry with this reply that leads to s: an accepted disturbance begins a new
+-- count.
+abbrev pub start_after : State → Reply → State → State
+start_after start Accepted s = s
+start_after start reply s = start
+
+-- the log from there
+abbrev pub log_after : List Entry → Event → Reply → List Entry
+log_after log event Accepted = []
+log_after log event reply = log ++ (event, reply) ∷ []
