@@ -1,8 +1,7 @@
 -- A journal that begins at a base.
-use Rattle.step_log.proofs.Prelude.{◌≡◌, ◌∙◌, ◌+◌, ◌≤◌, ℕ, false, List, [], length, map, Some, refl, sym, ap, subst, arith, Base, Forgotten, Moment, IsJournal, RuleTable, State, max_entries}
+use Rattle.step_log.proofs.Prelude.{◌≡◌, ◌≤◌, ℕ, List, [], length, map, Some, refl, sym, ap, subst, arith, Base, Forgotten, Moment, IsJournal, RuleTable, State, max_entries}
 use Rattle.rule_machine.specs.Network.{Network}
 use Rattle.rule_machine.specs.Base.{IsBaseMoment, base_of}
-use Rattle.rule_machine.specs.State.{flag}
 use Rattle.rule_engine.specs.EventReplies.{IsWithinBudget}
 use Rattle.charge_laws.specs.ChargeWords.{charge_bound}
 use Rattle.step_log.specs.declared.epoch.Epoch.{Epoch}

@@ -1,8 +1,10 @@
 -- What the proofs of this crate import from the crates below and from its own definitions.
 pub use Rattle.std.proofs.Common.{◌≡◌, ℕ, suc, ◌<◌, false, List, [], ◌∷◌, get_or, nat_eq, arith, ◌≢◌, ◌+◌, ◌*◌, ◌≤◌, ◌++◌, length, map, All, append_assoc, refl, sym, ap, ap₂, ◌∙◌, subst, true, Some, cond, ◌&&◌, filter_map, Any, Option, None, is_some, is_none, nat_le, option_and_then, le-leb}
-pub use Rattle.std.proofs.lemmas.Bool.{ne_eqb}
+pub use Rattle.std.proofs.lemmas.Bool.{ne_eqb, false≢true}
 pub use Rattle.std.proofs.lemmas.List.{append-nil, get_or-map, map-append, length-map, length-append}
-pub use Rattle.std.proofs.lemmas.List.Elements.{recursion_from_All, All-weaker}
+pub use Rattle.std.proofs.Common.{Bool, IsTrue}
+pub use Rattle.std.proofs.lemmas.List.Elements.{recursion_from_All, All-weaker, All-push}
+pub use Rattle.enabled_set.specs.Members.{members}
 pub use Rattle.std.proofs.lemmas.List.FromFn.{length-range_with_len}
 pub use Rattle.std.proofs.lemmas.List.Kept.{AllPairs-from_increasing}
 pub use Rattle.std.proofs.lemmas.List.Sums.{list_all-from_AllPass, length-filter, count_by-le-length}
@@ -26,9 +28,14 @@ pub use Rattle.machine_laws.proofs.Determinism.{answers_once}
 pub use Rattle.machine_laws.proofs.LeastAnswers.{least_answers}
 pub use Rattle.machine_laws.proofs.LeastMoves.{IsTable}
 pub use Rattle.machine_laws.proofs.MaximalMatchings.{maximal_from_stable, stable_from_maximal}
-pub use Rattle.machine_laws.proofs.Runs.{runs_end_in_states, run_add}
+pub use Rattle.machine_laws.proofs.Runs.{runs_end_in_states, run_add, answers_keep}
 pub use Rattle.machine_laws.proofs.Sizes.{runs_keep_size}
 pub use Rattle.machine_laws.proofs.UnusedFlags.{IsFlagless}
+pub use Rattle.machine_laws.specs.StatesAfterReplies.{followed}
+pub use Rattle.round_counter.specs.Counting.{HasCounted, IsLocal, MayFollow, is_step, log_after, start_after}
+pub use Rattle.round_counter.specs.declared.counter.RoundCounter.{RoundCounter}
+pub use Rattle.round_laws.proofs.Counting.{answer_followed}
+pub use Rattle.charge_laws.specs.ChargeWords.{IsUndisturbed}
 pub use Rattle.rule_engine.proofs.AscendingMoves.{rises_tail}
 pub use Rattle.rule_machine.specs.Answer.{Answers, spent_after, Does, AnswersBy}
 pub use Rattle.rule_machine.specs.Base.{begun_at, dropped, BeginsAt, base_of}
@@ -57,6 +64,7 @@ pub use Rattle.step_log.specs.Headline.{Upholds, LeadsTo}
 pub use Rattle.step_log.specs.JournalViews.{IsJournal, JournalView, kept_of, undropped_log, IsNextReceipt}
 pub use Rattle.step_log.specs.Log.{empty_log_with, max_entries, Log, IsLog}
 pub use Rattle.step_log.specs.Recording.{Recording, IsRecording}
+pub use Rattle.step_log.specs.Rounds.{CountsRun, CountsRounds, HasRounds, IsReady, IsCountedRecording, moment_of}
 pub use Rattle.step_log.specs.RetainedLogs.{RetainedLog, Begins, moment_in, IsRetainedRun, IsBaseOfGraph, checkpointed, kept_with, last_number, next_entry, whole, log_in}
 pub use Rattle.step_log.specs.declared.epoch.Epoch.{Epoch}
 pub use Rattle.step_log.specs.declared.receipt.Receipt.{Receipt}

@@ -1,4 +1,5 @@
 pub mod Recording
+pub mod Rounds
 pub mod Log
 pub mod RetainedLogs
 pub mod Epochs

@@ -43,6 +43,7 @@ impl<R: Rules> Recorder<R> {
             len: base.number,
             limit,
             present: base.nodes.as_slice().len() as u32,
+            rounds: None,
         })
     }
 }

@@ -29,6 +29,7 @@ mod prepared;
 mod receipt;
 mod recorder;
 mod renumber;
+mod rounds;
 mod silence;
 mod start_fault;
 

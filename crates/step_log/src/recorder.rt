@@ -14,8 +14,10 @@ ghost use Rattle.line_text.specs.EventText.{event_text};
 ghost use Rattle.step_log.specs.declared.fault.RecordFault.TheVariants.{LogFull};
 ghost use Rattle.step_log.specs.Recording.{max_entries, opening_recording, opening_recording_with, resumed_recording, entered, entered_line};
 
+use crate::rounds::{begin, begin_step, follow};
 use crate::{Answer, MAX_ENTRIES, RecordFault};
 use line_text::{put_entry, put_entry_of_line};
+use round_counter::RoundCounter;
 use rule_engine::{Choice, Event, GraphFault, Net, Reply, Rules, Verdict, Want};
 use std::alloc::Global;
 use std::marker::Model;
@@ -27,12 +29,14 @@ pub struct Recorder<R: Rules> {
     pub(crate) len: u32,
     pub(crate) limit: u32,
     pub(crate) present: u32,
+    pub(crate) rounds: Option<RoundCounter>,
 }
 
 impl<R: Rules> Model for Recorder<R> {
     ghost use Rattle.std.specs.Coded.{codes};
     ghost use Rattle.rule_machine.specs.State.{state_code};
-    ghost use Rattle.step_log.specs.Recording.{Recording, IsRecording};
+    ghost use Rattle.step_log.specs.Recording.{Recording};
+    ghost use Rattle.step_log.specs.Rounds.{IsCountedRecording};
 
     ghost Value = { Recording };
 
@@ -40,7 +44,7 @@ impl<R: Rules> Model for Recorder<R> {
 
     ghost view = { λ r. record { state = r.net.state; spent = r.net.spent; len = r.len; limit = r.limit; present = r.present } };
 
-    ghost invariant = { λ r. IsRecording (record { state = r.net.state; spent = r.net.spent; len = r.len; limit = r.limit; present = r.present }) };
+    ghost invariant = { λ r. IsCountedRecording R.table (record { state = r.net.state; spent = r.net.spent; len = r.len; limit = r.limit; present = r.present }) r.rounds };
 }
 
 impl<R: Rules> Recorder<R> {
@@ -81,6 +85,7 @@ impl<R: Rules> Recorder<R> {
             len: 0,
             limit: limit.min(MAX_ENTRIES),
             present,
+            rounds: None,
         })
     }
 
@@ -100,6 +105,7 @@ impl<R: Rules> Recorder<R> {
             len: number,
             limit: number.max(limit.min(MAX_ENTRIES)),
             present,
+            rounds: None,
         }
     }
 
@@ -174,7 +180,9 @@ impl<R: Rules> Recorder<R> {
         }
         self.net.prepare_into(event, reply)?;
         put_text(text, self.len + 1, event, line, reply)?;
+        begin(&mut self.rounds, &self.net, reply);
         self.net.commit(event, reply);
+        follow(&mut self.rounds, &self.net, reply);
         self.len += 1;
         Ok(())
     }
@@ -195,7 +203,9 @@ impl<R: Rules> Recorder<R> {
         if self.is_full() {
             return Err(RecordFault::LogFull);
         }
+        begin_step(&mut self.rounds, &self.net);
         let reply = self.net.apply_step(choice, verdicts)?;
+        follow(&mut self.rounds, &self.net, &reply);
         self.len += 1;
         Ok(Answer {
             seq: self.len,

@@ -1,4 +1,4 @@
-use Rattle.step_log.proofs.Prelude.{◌≡◌, ◌≤◌, ◌∙◌, List, Some, ap, ap₂, sym, subst, arith, max_entries, Base, EpochStart, Entry, Forgotten, Moment, IsJournal, RetainedLog, IsBaseOfGraph, base_of}
+use Rattle.step_log.proofs.Prelude.{◌≤◌, ◌∙◌, List, Some, ap, ap₂, sym, subst, arith, max_entries, Base, EpochStart, Entry, Forgotten, Moment, IsJournal, RetainedLog, IsBaseOfGraph, base_of}
 use Rattle.rule_machine.specs.Network.{Network}
 use Rattle.rule_engine.specs.EventReplies.{IsWithinBudget}
 use Rattle.rule_engine.specs.PreparedEvents.{NetView}

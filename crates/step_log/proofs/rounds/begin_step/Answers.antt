@@ -1,0 +1,18 @@
+use Rattle.step_log.proofs.Prelude.{◌≤◌, CountsRounds, CountsRun, subst, sym}
+use Rattle.rule_engine.specs.PreparedEvents.{net_moment}
+use Rattle.step_log.proofs.rounds.begin_step.Goals as goal
+
+pub returns-in-Some-clause-counts : goal.returns-in-Some-clause-counts
+returns-in-Some-clause-counts g c it =
+    let t = g.R.Rules.table in
+    let m = net_moment c.args.net.now in
+    let was : CountsRun t m c.in-Some.counter = subst (λ o. CountsRounds t m o) c.in-Some.is it in
+    record {
+      start = was.start;
+      is_state = was.is_state;
+      log = was.log;
+      run = was.run;
+      calm = was.calm;
+      counted = c.begin_step.ensures.counted t was.start.state was.log m.state c.enabled.ensures was.counted;
+      few = subst (λ n. n ≤ m.spent) (sym c.begin_step.ensures.rounds) was.few;
+    }

@@ -1,0 +1,52 @@
+-- The rounds that a recorder counts.
+use Rattle.std.specs.Prelude.{◌≡◌, ℕ, ◌+◌, ◌≤◌, List, ◌++◌, Option, None, Some, IsTrue, false}
+use Rattle.rule_machine.specs.declared.reply.Reply.{Reply}
+use Rattle.rule_machine.specs.State.{IsState}
+use Rattle.rule_machine.specs.RuleTable.{RuleTable}
+use Rattle.rule_machine.specs.Run.{Entry, Moment, Run}
+use Rattle.charge_laws.specs.ChargeWords.{IsUndisturbed}
+use Rattle.round_laws.specs.Rounds.{rounds_in, rounds_from}
+use Rattle.round_counter.specs.Counting.{HasCounted, is_step}
+use Rattle.round_counter.specs.declared.counter.RoundCounter.{RoundCounter}
+use Rattle.step_log.specs.Recording.{Recording, IsRecording}
+
+-- A run without a disturbance leads to this moment, and completes this many rounds. Whatever entries come
+-- next, the rounds of all together are these and those that the pending nodes complete.
+pub record HasRounds (t : RuleTable) (m : Moment) (rounds : ℕ) : Type 0 where
+  pub start : Moment
+  pub is_state : IsState start.state
+  pub log : List Entry
+  pub run : Run t start log m
+  pub calm : IsUndisturbed log
+  pub rounds_are : rounds ≡ rounds_in t start.state log
+  pub pending : List ℕ
+  pub later : (rest : List Entry) → rounds_in t start.state (log ++ rest) ≡ rounds + rounds_from t m.state pending rest
+
+-- A run without a disturbance leads to this moment, and the counter has counted its rounds. Each has a move.
+pub record CountsRun (t : RuleTable) (m : Moment) (c : RoundCounter) : Type 0 where
+  pub start : Moment
+  pub is_state : IsState start.state
+  pub log : List Entry
+  pub run : Run t start log m
+  pub calm : IsUndisturbed log
+  pub counted : HasCounted t start.state log m.state c
+  pub few : c.rounds ≤ m.spent
+
+-- the same of a counter, if there is one
+abbrev pub CountsRounds : RuleTable → Moment → Option RoundCounter → Type 0
+CountsRounds t m None = Unit {0}
+CountsRounds t m (Some c) = CountsRun t m c
+
+-- before a step a counter has the pending nodes in its set
+abbrev pub IsReady : Reply → Option RoundCounter → Type 0
+IsReady reply None = Unit {0}
+IsReady reply (Some c) = IsTrue (is_step reply) → c.is_new ≡ false
+
+-- the moment of a recording
+abbrev pub moment_of : Recording → Moment
+moment_of r = record { state = r.state; spent = r.spent }
+
+-- a recording, with a counter that has counted up to it
+pub record IsCountedRecording (t : RuleTable) (r : Recording) (rounds : Option RoundCounter) : Type 0 where
+  pub is_recording : IsRecording r
+  pub counts : CountsRounds t (moment_of r) rounds
