@@ -39,7 +39,7 @@ pub use Rattle.rule_machine.specs.declared.refusal.Refusal.TheVariants.{UnknownN
 pub use Rattle.rule_machine.specs.declared.reply.Reply.{Reply}
 pub use Rattle.rule_machine.specs.declared.reply.Reply.TheVariants.{Moves}
 pub use Rattle.rule_machine.specs.declared.verdict.Outcome.TheVariants.{Absent}
-pub use Rattle.snapshots.proofs.Fronts.{prefix_self, prefix_whole}
+pub use Rattle.snapshots.proofs.Fronts.{prefix_self, prefix_trans, prefix_whole}
 pub use Rattle.snapshots.proofs.Machine.{run_names, run_pointers}
 pub use Rattle.snapshots.proofs.Rows.{effect_length}
 pub use Rattle.snapshots.proofs.Starts.{start_row, start_here, start_size, row_places}
@@ -63,9 +63,9 @@ pub use Rattle.locked_net.specs.Marks.{mark_of, AreReceiptMarks}
 pub use Rattle.locked_net.specs.Nets.{book_of, name_of, setting_of, start_number_of}
 pub use Rattle.locked_net.specs.PublishedJournals.{PublishedJournalView, KeepsKey, IsPublishedJournal}
 pub use Rattle.locked_net.specs.ReaderAnswers.{Shows}
-pub use Rattle.locked_net.specs.Receipts.{ClerkView, noted, IsClerk, IsReceiptOf, NotesLast, StandsLastFrom, StandsLast, front_of, seen_by, front_from, RiseAbove, HasNoteOf, base_from, base_number}
+pub use Rattle.locked_net.specs.Receipts.{ClerkView, noted, IsClerk, IsReceiptOf, NotesLast, StandsLastFrom, StandsLast, front_of, seen_by, front_from, RiseAbove, HasNoteOf, IsOfBook, seen_from, base_from, base_number}
 pub use Rattle.locked_net.specs.RetainedParts.{IsPartNoted, log_over, IsLogAboveBase, TellsEnd}
-pub use Rattle.locked_net.specs.RoamResults.{AllEnd, AllKeepNotes, IsLoneStep, Roams, AllRoam, RoamResult, MayMeetRoamFault, TakesTurns, AllTakeTurns, MayEnd, roam_fault, KeepsNote, TakesTurn, MeetsFault}
+pub use Rattle.locked_net.specs.RoamResults.{AllEnd, AllKeepNotes, IsLoneStep, Roams, AllRoam, RoamResult, MayMeetRoamFault, TakesTurns, AllTakeTurns, BreaksOff, MayEnd, HasOwnNote, EndsOnLog, roam_fault, KeepsNote, TakesTurn, MeetsFault}
 pub use Rattle.locked_net.specs.RoamTurns.{mover, lone_items, lone_step, receipts_by, receipts_of_turn, FaultBy, fault_by, fault_of_turn, FaultInTurn}
 pub use Rattle.locked_net.specs.Settings.{Setting, IsLogIn}
 pub use Rattle.locked_net.specs.WholeLogs.{IsWholeLog}

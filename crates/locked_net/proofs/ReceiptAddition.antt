@@ -15,6 +15,14 @@ seen_few seen log none =
 pub seen_at_checkpoint : (seen : ℕ) (log : RetainedLog) → checkpoint_fault seen log ≡ None → seen ≤ last_number log
 seen_at_checkpoint seen log none = ltb-false (last_number log) seen (not_first (nat_lt (last_number log) seen) (Behind (last_number log) seen) None none)
 
+-- which has no fault either with less seen
+pub less_at_checkpoint : (less seen : ℕ) (log : RetainedLog) → less ≤ seen → checkpoint_fault seen log ≡ None → checkpoint_fault less log ≡ None
+less_at_checkpoint less seen log few none =
+    let here = last_number log in
+    let all : seen ≤ here = seen_at_checkpoint seen log none in
+    let low : nat_lt here less ≡ false = le-ltb here less (omega (arith, few, all)) in
+    subst (λ (b : Bool). (if b then Some (Behind here less) else None) ≡ None) (sym low) refl
+
 -- and may call with less seen
 not_second : (b : Bool) (fault : CallFault) (other : Option CallFault) → (if b then Some fault else other) ≡ None → other ≡ None
 not_second true fault other e = absurd (none-some fault (sym e))

@@ -1,6 +1,6 @@
 -- The receipts of clerks that roamed turn by turn, and their fault.
-use Rattle.locked_net.proofs.Prelude.{◌≡◌, ◌∙◌, ℕ, zero, suc, ◌+◌, ◌<◌, ◌≤◌, List, [], ◌∷◌, ◌++◌, length, take, drop, min, Option, None, Some, refl, sym, ap, subst, ⊎_elim, append_assoc, length-append, arith, All, slice_get, cases_lt, append-nil, drop_all, drop_at, nil_from_length, take_all, take_at, same_Some, none-some, All-nil, All-cons, All-append, RuleTable, Receipt, RetainedLog, next_receipt, ClerkView, seen_by, Setting, CallFault, Behind, LogFull, Memory, RoamFault, MayAnswer, mover, lone_step, receipts_by, receipts_of_turn, FaultBy, IsLoneStep, Roams, AllRoam, RoamResult, MayMeetRoamFault, TakesTurns, AllTakeTurns, MayEnd, AllEnd, roam_fault}
-use Rattle.locked_net.proofs.CallFaults.{may_answer}
+use Rattle.locked_net.proofs.Prelude.{◌≡◌, ◌∙◌, ℕ, zero, suc, ◌+◌, ◌<◌, ◌≤◌, List, [], ◌∷◌, ◌++◌, length, take, drop, min, Option, None, Some, refl, sym, ap, subst, ⊎_elim, append_assoc, length-append, arith, All, slice_get, cases_lt, append-nil, drop_all, drop_at, nil_from_length, take_all, take_at, same_Some, none-some, All-nil, All-cons, All-append, RuleTable, Entry, Receipt, RetainedLog, next_receipt, ClerkView, seen_by, Setting, CallFault, Behind, LogFull, Memory, RoamFault, MayAnswer, mover, lone_step, receipts_by, receipts_of_turn, FaultBy, IsLoneStep, Roams, AllRoam, RoamResult, MayMeetRoamFault, TakesTurns, AllTakeTurns, BreaksOff, MayEnd, AllEnd, roam_fault}
+use Rattle.locked_net.proofs.CallFaults.{may_answer, may_be_behind}
 use Rattle.locked_net.proofs.Movers.{mover_answers}
 
 -- ---- receipts
@@ -18,10 +18,10 @@ turn_told t log turn (Some v) is =
     let own : IsLoneStep receipt = record { node = v; move = answered.move; stepped = refl; moved = answered.answer; own = answered.own } in
     record { few = omega arith; lone = All-cons IsLoneStep receipt [] own (All-nil IsLoneStep) }
 
-turns_roam : (setting : Setting) (turns : ℕ) (old new : List Receipt) → TakesTurns setting turns old new → Roams turns old new
-turns_roam setting zero old new is = record { own = []; added = is ∙ sym (append-nil old); few = omega arith; lone = All-nil IsLoneStep }
-turns_roam setting (suc turn) old new (before, taken, last) =
-    let so_far = turns_roam setting turn old before taken in
+turns_roam : (setting : Setting) (shown : List Entry) (turns : ℕ) (old new : List Receipt) → TakesTurns setting shown turns old new → Roams turns old new
+turns_roam setting shown zero old new is = record { own = []; added = is ∙ sym (append-nil old); few = omega arith; lone = All-nil IsLoneStep }
+turns_roam setting shown (suc turn) old new (before, taken, last) =
+    let so_far = turns_roam setting shown turn old before taken in
     let told = receipts_of_turn setting.table last.log turn in
     let more = turn_told setting.table last.log turn (mover setting.table last.log.state turn) refl in
     record {
@@ -31,17 +31,17 @@ turns_roam setting (suc turn) old new (before, taken, last) =
       lone = All-append IsLoneStep so_far.own told so_far.lone more.lone;
     }
 
-end_roams : (setting : Setting) (turns : ℕ) (old new : ClerkView) (fault : Option CallFault) → MayEnd setting turns old new fault → Roams turns old.receipts new.receipts
-end_roams setting turns old new None taken = turns_roam setting turns old.receipts new.receipts taken
-end_roams setting turns old new (Some fault) broken =
-    let some = turns_roam setting broken.turn old.receipts new.receipts broken.taken in
+end_roams : (setting : Setting) (shown : List Entry) (turns : ℕ) (old new : ClerkView) (fault : Option CallFault) → MayEnd setting shown turns old new fault → Roams turns old.receipts new.receipts
+end_roams setting shown turns old new None taken = turns_roam setting shown turns old.receipts new.receipts taken
+end_roams setting shown turns old new (Some fault) broken =
+    let some = turns_roam setting shown broken.turn old.receipts new.receipts broken.taken in
     record { own = some.own; added = some.added; few = omega (arith, some.few, broken.below); lone = some.lone }
 
 all_roam : (setting : Setting) (turns : ℕ) (olds news : List ClerkView) (fault : Option CallFault) → AllEnd setting turns olds news fault → AllRoam turns olds news
 all_roam setting turns [] [] fault ends = tt
 all_roam setting turns [] (new ∷ news) fault ends = absurd ends
 all_roam setting turns (old ∷ olds) [] fault ends = absurd ends
-all_roam setting turns (old ∷ olds) (new ∷ news) fault (own, others, is, ended, ends) = (end_roams setting turns old new own ended, all_roam setting turns olds news others ends)
+all_roam setting turns (old ∷ olds) (new ∷ news) fault (own, others, is, ended, ends) = (end_roams setting ended.shown turns old new own ended.ended, all_roam setting turns olds news others ends)
 
 -- ---- the first of them
 
@@ -106,7 +106,7 @@ first_taken setting turns count whole part new rest fault value size few same en
 -- ---- the fault
 
 met_answers : (seen : ℕ) (log : RetainedLog) (chosen : Option ℕ) (fault : CallFault) → FaultBy seen log chosen fault → MayAnswer seen fault
-met_answers seen log None fault met = absurd met
+met_answers seen log None fault met = may_be_behind seen log fault met
 met_answers seen log (Some v) fault met = may_answer seen log fault met
 
 -- one of these clerks met the fault
@@ -126,7 +126,8 @@ fault_met setting turns (old ∷ olds) (new ∷ news) rest first fault (None, ot
     record { clerk = suc later.clerk; view = later.view; worker = omega (arith, later.worker); has = later.has; may = later.may }
 fault_met setting turns (old ∷ olds) (new ∷ news) rest first fault (Some own, others, first_is, ended, ends) is =
     let same : own ≡ fault = same_Some own fault (sym first_is ∙ is) in
-    let may = met_answers (seen_by new) ended.met.log (mover setting.table ended.met.log.state ended.turn) own ended.met.met in
+    let broken : BreaksOff setting ended.shown turns old new own = ended.ended in
+    let may = met_answers (seen_by new) broken.met.log (mover setting.table broken.met.log.state broken.turn) own broken.met.met in
     record { clerk = 0; view = new; worker = omega arith; has = refl; may = subst (MayAnswer (seen_by new)) same may }
 
 stops : (clerks : List ClerkView) (workers : ℕ) (fault : CallFault) → workers ≤ 64 → IsMet clerks workers fault → MayMeetRoamFault clerks (roam_fault fault)

@@ -1,18 +1,21 @@
 -- The receipts and notes of clerks that roam.
 --
 -- A clerk that roams takes its turns one after another, each under one hold of the network's lock. Between
--- two turns any caller may have recorded anything. So each turn is taken on some log, which is a run of the
--- rule machine, and the result of the turn is the result on this log.
+-- two turns any caller may have recorded anything. So each turn is taken on a log of its own, which is a run
+-- of the rule machine, and the result of the turn is the result on this log. All these logs begin one log,
+-- which the clerk's note shows afterwards; so they begin the log that settling finds.
 use Rattle.std.specs.Prelude.{◌≡◌, ℕ, zero, suc, ◌<◌, ◌≤◌, ◌⊎◌, List, [], ◌∷◌, ◌++◌, length, take, drop, slice_get, Option, None, Some}
 use Rattle.std.specs.List.{All}
 use Rattle.std.specs.Option.{option_or}
+use mathlib.Core.List.{IsPrefix}
 use Rattle.rule_machine.specs.declared.act.Moved.{Moved}
 use Rattle.rule_machine.specs.declared.reply.Reply.TheVariants.{Moves}
+use Rattle.rule_machine.specs.Run.{Entry}
 use Rattle.step_log.specs.declared.receipt.Receipt.{Receipt}
 use Rattle.logbook.specs.Pages.{Book}
 use Rattle.step_log.specs.RetainedLogs.{RetainedLog}
 use Rattle.locked_net.specs.Settings.{Setting, IsLogIn}
-use Rattle.locked_net.specs.Receipts.{ClerkView, HasNoteOf, base_from, front_of, seen_by}
+use Rattle.locked_net.specs.Receipts.{ClerkView, HasNoteOf, base_from, front_of, noted, seen_by}
 use Rattle.locked_net.specs.RoamTurns.{lone_step, receipts_of_turn, fault_of_turn, FaultInTurn}
 use Rattle.locked_net.specs.declared.call_fault.CallFault.{CallFault}
 use Rattle.locked_net.specs.declared.call_fault.CallFault.TheVariants as call_fault
@@ -79,10 +82,12 @@ MayMeetRoamFault clerks Memory = Unit {0}
 
 -- ---- turn by turn
 
--- A turn was taken on a log without a fault.
-pub record TakesTurn (setting : Setting) (turn : ℕ) (old new : List Receipt) : Type 0 where
+-- A turn was taken without a fault on a log that begins `shown`. This log includes all entries of the clerk's
+-- receipts, also if no node was enabled.
+pub record TakesTurn (setting : Setting) (shown : List Entry) (turn : ℕ) (old new : List Receipt) : Type 0 where
   pub log : RetainedLog
   pub own : IsLogIn setting log
+  pub begins : IsPrefix log.entries shown
   pub free : fault_of_turn setting.table (front_of old) log turn ≡ None
   pub added : new ≡ old ++ receipts_of_turn setting.table log turn
 
@@ -93,34 +98,44 @@ pub record MeetsFault (setting : Setting) (turn : ℕ) (clerk : ClerkView) (faul
   pub met : FaultInTurn setting.table (seen_by clerk) log turn fault
 
 -- turns 0 to n - 1 were taken, for this number n
-abbrev pub TakesTurns : Setting → ℕ → List Receipt → List Receipt → Type 0
-TakesTurns setting zero old new = new ≡ old
-TakesTurns setting (suc turn) old new = (before : List Receipt) × TakesTurns setting turn old before × TakesTurn setting turn before new
+abbrev pub TakesTurns : Setting → List Entry → ℕ → List Receipt → List Receipt → Type 0
+TakesTurns setting shown zero old new = new ≡ old
+TakesTurns setting shown (suc turn) old new = (before : List Receipt) × TakesTurns setting shown turn old before × TakesTurn setting shown turn before new
+
+-- Fewer turns were taken, and the next turn met a fault.
+pub record BreaksOff (setting : Setting) (shown : List Entry) (turns : ℕ) (old new : ClerkView) (fault : CallFault) : Type 0 where
+  pub turn : ℕ
+  pub below : turn < turns
+  pub taken : TakesTurns setting shown turn old.receipts new.receipts
+  pub met : MeetsFault setting turn new fault
+
+-- a clerk took all its turns, or took turns up to a fault
+abbrev pub MayEnd : Setting → List Entry → ℕ → ClerkView → ClerkView → Option CallFault → Type 0
+MayEnd setting shown turns old new None = TakesTurns setting shown turns old.receipts new.receipts
+MayEnd setting shown turns old new (Some fault) = BreaksOff setting shown turns old new fault
+
+-- The clerk had no note, or got a receipt. So its note is of the network in which it roamed.
+abbrev pub HasOwnNote : ClerkView → ClerkView → Type 0
+HasOwnNote old new = (old.note ≡ None) ⊎ (length old.receipts < length new.receipts)
+
+-- A clerk took its turns on beginnings of one log. If its note is of this network, the note shows that log.
+pub record EndsOnLog (setting : Setting) (turns : ℕ) (old new : ClerkView) (fault : Option CallFault) : Type 0 where
+  pub shown : List Entry
+  pub ended : MayEnd setting shown turns old new fault
+  pub begins : HasOwnNote old new → IsPrefix shown (noted new.note)
 
 -- each of these clerks took this number of turns
 abbrev pub AllTakeTurns : Setting → ℕ → List ClerkView → List ClerkView → Type 0
 AllTakeTurns setting turns [] [] = Unit {0}
-AllTakeTurns setting turns (old ∷ olds) (new ∷ news) = TakesTurns setting turns old.receipts new.receipts × AllTakeTurns setting turns olds news
+AllTakeTurns setting turns (old ∷ olds) (new ∷ news) = EndsOnLog setting turns old new None × AllTakeTurns setting turns olds news
 AllTakeTurns setting turns olds news = ⊥
-
--- Fewer turns were taken, and the next turn met a fault.
-pub record BreaksOff (setting : Setting) (turns : ℕ) (old new : ClerkView) (fault : CallFault) : Type 0 where
-  pub turn : ℕ
-  pub below : turn < turns
-  pub taken : TakesTurns setting turn old.receipts new.receipts
-  pub met : MeetsFault setting turn new fault
-
--- a clerk took all its turns, or took turns up to a fault
-abbrev pub MayEnd : Setting → ℕ → ClerkView → ClerkView → Option CallFault → Type 0
-MayEnd setting turns old new None = TakesTurns setting turns old.receipts new.receipts
-MayEnd setting turns old new (Some fault) = BreaksOff setting turns old new fault
 
 -- Each clerk roamed. The fault is the first that a clerk met, in the clerks' order; none if each clerk took
 -- all its turns.
 abbrev pub AllEnd : Setting → ℕ → List ClerkView → List ClerkView → Option CallFault → Type 0
 AllEnd setting turns [] [] fault = fault ≡ None
 AllEnd setting turns (old ∷ olds) (new ∷ news) fault =
-    (own : Option CallFault) × (others : Option CallFault) × (fault ≡ option_or own others) × MayEnd setting turns old new own × AllEnd setting turns olds news others
+    (own : Option CallFault) × (others : Option CallFault) × (fault ≡ option_or own others) × EndsOnLog setting turns old new own × AllEnd setting turns olds news others
 AllEnd setting turns olds news fault = ⊥
 
 -- a call's fault as a fault of roaming

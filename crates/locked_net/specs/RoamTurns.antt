@@ -1,5 +1,5 @@
 -- Turns of clerks that roam: in each, one enabled node moves alone, if any is enabled.
-use Rattle.std.specs.Prelude.{ℕ, ◌%◌, List, [], ◌∷◌, length, slice_get, Option, None, Some}
+use Rattle.std.specs.Prelude.{◌≡◌, ℕ, ◌%◌, List, [], ◌∷◌, length, slice_get, Option, None, Some}
 use Rattle.rule_machine.specs.declared.choice.Item.{Item}
 use Rattle.rule_machine.specs.declared.event.Event.{Event}
 use Rattle.rule_machine.specs.declared.event.Event.TheVariants.{Step}
@@ -8,7 +8,7 @@ use Rattle.rule_machine.specs.RuleTable.{RuleTable, enabled_names}
 use Rattle.step_log.specs.declared.receipt.Receipt.{Receipt}
 use Rattle.step_log.specs.RetainedLogs.{RetainedLog, kept_with, next_receipt}
 use Rattle.locked_net.specs.declared.call_fault.CallFault.{CallFault}
-use Rattle.locked_net.specs.Calls.{call_fault, ExplainsCallFault}
+use Rattle.locked_net.specs.Calls.{call_fault, checkpoint_fault, ExplainsCallFault}
 
 -- the node whose turn it is, if any: of the n enabled nodes, ascending, the one at index `turn mod n`, from 0
 abbrev pub mover : RuleTable → State → ℕ → Option ℕ
@@ -31,14 +31,15 @@ abbrev pub receipts_by : RuleTable → RetainedLog → Option ℕ → List Recei
 receipts_by t log None = []
 receipts_by t log (Some v) = next_receipt t log (lone_step v) ∷ []
 
--- why that step is not recorded; no fault if there is no node
+-- Why that step is not recorded. Without a node a full log is no fault, as for a checkpoint; but a clerk that has
+-- seen more than the log has is behind.
 abbrev pub fault_by : ℕ → RetainedLog → Option ℕ → Option CallFault
-fault_by seen log None = None
+fault_by seen log None = checkpoint_fault seen log
 fault_by seen log (Some v) = call_fault seen log
 
--- there is a node, and the fault is that of its step; `Memory` only if the step has no other fault
+-- the fault is that one; `Memory` only if there is a node and its step has no other fault
 abbrev pub FaultBy : ℕ → RetainedLog → Option ℕ → CallFault → Type 0
-FaultBy seen log None fault = ⊥
+FaultBy seen log None fault = checkpoint_fault seen log ≡ Some fault
 FaultBy seen log (Some v) fault = ExplainsCallFault (call_fault seen log) fault
 
 -- log, receipts and faults as above, for the node whose turn it is

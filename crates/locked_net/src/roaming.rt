@@ -20,7 +20,10 @@ pub const MAX_WORKERS: usize = 64;
 /// Turns and workers are numbered from 0. In each turn a worker passes the gate, with the worker's number
 /// and the turn's. Then, under one hold of the network's lock, the worker records a step of one node to the
 /// least target. Of the n enabled nodes, ascending, this is the one at index `turn mod n`, from 0. If no
-/// node is enabled, the worker records nothing and meets no fault.
+/// node is enabled, the worker records nothing, and its only fault can be `Behind`.
+///
+/// A clerk's turns are taken on beginnings of one log. The clerk's note shows this log afterwards if the clerk
+/// had no note or got a receipt: only then is the note known to be of this network.
 ///
 /// A worker that meets a fault ends; the other workers go on. The result is the first fault in the clerks'
 /// order. Recorded entries and their receipts stay. Each clerk's note is unchanged or a note of this

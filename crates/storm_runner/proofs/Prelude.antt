@@ -21,6 +21,7 @@ pub use Rattle.line_text.specs.ReplyText.{IsReply}
 pub use Rattle.line_text.specs.EntryText.{entry_line, entry_lines}
 pub use Rattle.line_text.specs.Words.{Extends, number_text}
 pub use Rattle.locked_net.proofs.ReceiptAddition.{seen_few, front_more, front_free}
+pub use Rattle.locked_net.proofs.Turns.{turns_on}
 pub use Rattle.locked_net.specs.Calls.{Keeps, call_fault, Drives, Breaks}
 pub use Rattle.locked_net.specs.ChosenEvents.{ChoosesOn, ChoosesStep, IsChosenReply}
 pub use Rattle.locked_net.specs.ClerkCalls.{some_of}

@@ -138,7 +138,8 @@ IsRoaming turns own = (length own ≤ turns) × All IsLoneStep own
 
 -- The clerks of a storm are one for each script, which played the script, and then one for each worker, which
 -- roamed. The fault is the first that a script met, in the order of the scripts, or else a fault that a
--- worker met. If no worker met a fault, each worker took all its turns, each on a run of the rules.
+-- worker met. If no worker met a fault, each worker took all its turns, each on a beginning of the log: in
+-- turn t the node moved whose turn it was in the state there, or no node was enabled there.
 pub record AllTold (scene : Scene) (scripts : List (List ScriptLine)) (roamers turns : ℕ) (clerks : List ClerkView) (fault : Option CallFault) : Type 0 where
   pub own : List ClerkView
   pub roaming : List ClerkView
@@ -151,11 +152,11 @@ pub record AllTold (scene : Scene) (scripts : List (List ScriptLine)) (roamers t
   pub unbased : All (λ clerk. clerk.base ≡ None) roaming
   pub first : fault ≡ option_or met other
   pub nobody : roamers ≡ 0 → other ≡ None
-  pub whole : other ≡ None → All (λ clerk. TakesTurns scene.setting turns [] clerk.receipts) roaming
+  pub whole : other ≡ None → All (λ clerk. TakesTurns scene.setting scene.log turns [] clerk.receipts) roaming
 
 -- What these scripts leave with these workers, and the first fault. The clerks account for the kept log,
--- which is the part of a whole log after the last checkpoint. Each turn of a script was taken on a beginning
--- of the whole log.
+-- which is the part of a whole log after the last checkpoint. Each turn of a script or worker was taken on a
+-- beginning of the whole log.
 pub record IsStormResult (setting : Setting) (kept : RetainedLog) (scripts : List (List ScriptLine)) (roamers turns : ℕ) (fault : Option CallFault) : Type 0 where
   pub clerks : List ClerkView
   pub settled : Settlement (base_number setting.base) kept clerks

@@ -1,7 +1,7 @@
 -- How workers roam during scripts, and what their fault is to a storm.
 use Rattle.std.specs.Prelude.{◌≡◌, ◌≢◌, ◌↔◌, ℕ, List, [], length, Option, None, Some, Result, Ok, Err, IfErr, OnOk, IsErrOf}
 use Rattle.std.specs.List.{All}
-use Rattle.locked_net.specs.Receipts.{ClerkView}
+use Rattle.locked_net.specs.Receipts.{ClerkView, noted}
 use Rattle.locked_net.specs.Settings.{Setting}
 use Rattle.locked_net.specs.RoamResults.{TakesTurns}
 use Rattle.locked_net.specs.declared.call_fault.CallFault.{CallFault}
@@ -10,12 +10,13 @@ use Rattle.locked_net.specs.declared.roam_fault.RoamFault.{RoamFault}
 use Rattle.locked_net.specs.declared.roam_fault.RoamFault.TheVariants as roam
 use Rattle.storm_runner.specs.Storm.{IsRoaming}
 
--- Fresh clerks have roamed for this many turns. If the result is `Ok`, each clerk took all its turns. No
--- clerk made a base, `ZeroWorkers` comes exactly if there are no clerks, and `Thread` never comes.
+-- Fresh clerks have roamed for this many turns. If the result is `Ok`, each clerk took all its turns, each on a
+-- beginning of the log that its note shows. No clerk made a base, `ZeroWorkers` comes exactly if there are no
+-- clerks, and `Thread` never comes.
 pub record RoamResultOfNew (setting : Setting) (turns : ℕ) (old new : List ClerkView) (ended : Result Unit RoamFault) : Type 0 where
   pub as_many : length new ≡ length old
   pub steps : All (λ clerk. IsRoaming turns clerk.receipts) new
-  pub whole : OnOk ended (All (λ clerk. TakesTurns setting turns [] clerk.receipts) new)
+  pub whole : OnOk ended (All (λ clerk. TakesTurns setting (noted clerk.note) turns [] clerk.receipts) new)
   pub unbased : All (λ clerk. clerk.base ≡ None) new
   pub nobody : IsErrOf ended roam.ZeroWorkers ↔ (old ≡ [])
   pub thread : IfErr ended (λ fault. fault ≢ roam.Thread)

@@ -13,6 +13,7 @@ use std::sync::Wait;
 
 impl<R: Rules> HeldNet<'_, R> {
     /// Lets the node whose turn it is move alone, if any is enabled; `None` if none is.
+    /// `Behind` comes in both cases, other faults only if a node is enabled.
     pub(crate) fn roam<W: Wait>(
         &mut self,
         rt: &W,
@@ -30,7 +31,10 @@ impl<R: Rules> HeldNet<'_, R> {
                 let choice = Choice::one(Item { node, wish: None });
                 Ok(Some(self.call(rt, clerk, Event::Step(choice))?))
             }
-            None => Ok(None),
+            None => {
+                clerk.keeps_up(&self.desk)?;
+                Ok(None)
+            }
         }
     }
 }
