@@ -12,7 +12,7 @@ import io
 import math
 from collections import deque
 from dataclasses import dataclass
-from typing import Callable, Deque, Dict, Iterable, NamedTuple, Optional, Tuple
+from typing import Callable, Deque, Dict, Iterable, Mapping, NamedTuple, Optional, Tuple
 
 from .replies import Name
 
@@ -20,6 +20,8 @@ from .replies import Name
 MOST_WRITES, FEWEST_WRITES, ALL_WRITES = 64, 4, 1 << 18
 # how many older registers of a node are known to have been held
 MOST_OLDER = 256
+# how many writes are kept of all nodes together, as long as no copy is looked up
+MOST_UNREAD = 1 << 14
 # how many pairs of nodes are counted
 MOST_PAIRS = 1 << 16
 # each octave of ages has as many buckets; an age is rounded down by less than one in as many
@@ -40,26 +42,65 @@ def since(now: Optional[float], then: Optional[float]) -> Optional[float]:
 
 
 class Histories:
-    """The last writes of each node and the last changes of its links."""
+    """The last writes of each node and the last changes of its links.
 
-    def __init__(self, capacity: int) -> None:
+    As long as no copy is looked up, only the latest writes of all nodes are kept: those of `age` lines, or more.
+    """
+
+    def __init__(self, capacity: int, age: int = 0) -> None:
         self.kept = max(FEWEST_WRITES, min(MOST_WRITES, ALL_WRITES // max(1, capacity)))
-        self.held: dict[int, Deque[Held]] = {}
+        self.age = age
+        # each node's writes, but for the latest ones of all nodes, which are in `latest`: the node, what it
+        # holds since which line and time, and what it held before
+        self.sorted: dict[int, Deque[Held]] = {}
+        self.latest: list[Tuple[int, int, Optional[float], int, bool, int, bool]] = []
         self.links: dict[int, Deque[Change]] = {}
         # registers whose last line is no longer kept
         self.older: dict[int, set[tuple[int, bool]]] = {}
+        # the line before which nothing is kept
+        self.first = 1
 
-    def write(self, line: int, time: Optional[float], node: int, pointer: int, flag: bool) -> None:
-        """A node's registers change at a line."""
-        rows = self.held.get(node)
-        if rows is None:
-            # each node begins null and unflagged
-            rows = self.held[node] = deque([(1, None, 0, False)], self.kept + 1)
-        elif len(rows) > self.kept:
-            older = self.older.setdefault(node, set())
-            if len(older) < MOST_OLDER:
-                older.add(rows[0][2:])
-        rows.append((line, time, pointer, flag))
+    @property
+    def held(self) -> Mapping[int, Deque[Held]]:
+        """The last writes of each node, the oldest first."""
+        if self.latest:
+            self.sort()
+        return self.sorted
+
+    def write(
+        self,
+        line: int,
+        time: Optional[float],
+        node: int,
+        pointer: int,
+        flag: bool,
+        before: Tuple[int, bool] = (0, False),
+    ) -> None:
+        """A node's registers change at a line, from what it held before."""
+        self.latest.append((node, line, time, pointer, flag, *before))
+
+    def shorten(self, is_read: bool) -> None:
+        """Takes the latest writes to their nodes; drops them if no copy was looked up, and they are old."""
+        if is_read or self.sorted:
+            return self.sort()
+        while len(self.latest) > MOST_UNREAD and self.latest[-MOST_UNREAD][1] < self.latest[-1][1] - self.age:
+            self.first = self.latest[-MOST_UNREAD][1]
+            del self.latest[:-MOST_UNREAD]
+
+    def sort(self) -> None:
+        """Takes the latest writes to their nodes."""
+        found, most = self.sorted, self.kept
+        for node, line, time, pointer, flag, old, was in self.latest:
+            rows = found.get(node)
+            if rows is None:
+                # each node begins null and unflagged
+                rows = found[node] = deque([(self.first, None, old, was)], most + 1)
+            elif len(rows) > most:
+                older = self.older.setdefault(node, set())
+                if len(older) < MOST_OLDER:
+                    older.add(rows[0][2:])
+            rows.append((line, time, pointer, flag))
+        self.latest.clear()
 
     def link(self, line: int, time: Optional[float], a: int, b: int, is_new: bool) -> None:
         for node, other in ((a, b), (b, a)):
@@ -79,14 +120,14 @@ class Histories:
 
     def may_be_older(self, node: int, pointer: int, flag: bool) -> bool:
         """Whether a node held these registers, or may have, before the writes that are kept."""
-        older = self.older.get(node, ())
-        return (pointer, flag) in older or len(older) == MOST_OLDER
+        older = self.older.get(node, ()) if self.held else ()
+        return (pointer, flag) in older or len(older) == MOST_OLDER or self.first > 1
 
-    def at(self, node: int, line: int) -> Tuple[int, bool]:
-        """What a node held before a line, as far back as its writes are kept."""
+    def at(self, node: int, line: int) -> Optional[Tuple[int, bool]]:
+        """What a node held before a line, as far back as its writes are kept; None if it has not been written."""
         rows = self.held.get(node)
         if not rows:
-            return 0, False
+            return None
         found = next((row for row in reversed(rows) if row[0] < line), rows[0])
         return found[2], found[3]
 

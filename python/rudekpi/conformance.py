@@ -8,38 +8,38 @@ question and explain the answer.
 from __future__ import annotations
 
 import contextlib
-import json
-import os
 import re
 from dataclasses import dataclass, replace
-from typing import Any, BinaryIO, Callable, Iterator, Mapping, Optional, Sequence, Union
+from typing import Any, Callable, Iterator, Mapping, Optional, Sequence
 
 from . import log_lines, rules
 from .ages import Histories, PairAges
 from .divergences import Diagnosis, Divergence, Judged, LastMove, LogPosition, refusal_text
 from .engines import RULES, Engine, Stand, base_of, engine_of
 from .errors import BadLine, Ended, Garbled
-from .files import WholeFile
 from .library import MOVES
 from .liveness import Waiting, longest
 from .log_inputs import Flaw, Input, opened_input
-from .log_lines import Log, shown, spelled
+from .log_lines import Log, spelled
+from .log_names import Named
 from .log_places import where
 from .log_running import OnNote, Repeated, Running
 from .log_times import time_of
+from .log_transcripts import Target, Transcript
 from .move_tallies import STALE, WRONG, MoveTallies, MoveTally
-from .name_files import write_names
 from .numbers import MOST_NODES
 from .observed_moves import ABANDON, CHOOSING, UPDATE, Observed, is_allowed, is_plain, observed, rule_of
 from .program import Program
 from .replies import Name
 from .stale_reads import StaleReads
 from .state import State
+from .usual_moves import UsualMoves, written
 from .views import Rule, View, ViewReader, rule_on_views
 
 # how many lines back a stale copy is guessed at
 AGE = 100
-Target = Union[str, "os.PathLike[str]", BinaryIO, None]
+# how many writes may wait until they are taken to their nodes' histories
+MOST_LATEST = 1 << 12
 
 
 @dataclass(frozen=True)
@@ -93,90 +93,6 @@ class Conformance:
         return self.is_accepted
 
 
-class Named:
-    """The names of a log's nodes, and their numbers in the transcript."""
-
-    def __init__(self, number: int, head: Any, ignores_extra: bool = False) -> None:
-        if not isinstance(head, dict) or "nodes" not in head:
-            raise BadLine(
-                number, 'a log begins with {"nodes": ["a", "b", ..], "capacity": N}' + f", not {spelled(head)}"
-            )
-        odd = next((key for key in head if key not in ("nodes", "capacity", "absent", *log_lines.FREE)), None)
-        if odd is not None and not ignores_extra:
-            raise BadLine(number, f"the first line has nodes, capacity and absent, and no key {spelled(odd)}")
-        nodes = head["nodes"]
-        if not isinstance(nodes, (list, tuple)):
-            raise BadLine(number, f"nodes is a list of names, and not {spelled(nodes)}")
-        self.numbers: dict[Any, int] = {}
-        self.all: list[Any] = []
-        self.texts: set[str] = set()
-        self.raw: dict[bytes, int] = {b"null": 0}
-        self.capacity = head.get("capacity", len(nodes))
-        if type(self.capacity) is not int or not len(nodes) <= self.capacity <= MOST_NODES:
-            raise BadLine(
-                number,
-                f"capacity is a number from {len(nodes)}, how many nodes there are, to {MOST_NODES}, "
-                f"and not {spelled(self.capacity)}",
-            )
-        for name in nodes:
-            self.add(number, name)
-        self.present = self.present_ones(number, head.get("absent", ()))
-
-    def present_ones(self, number: int, absent: Any) -> list[int]:
-        """The nodes that are there at the start, ascending. Raises `BadLine`."""
-        if not isinstance(absent, (list, tuple)):
-            raise BadLine(number, f"absent is a list of names, and not {spelled(absent)}")
-        gone: set[int] = set()
-        for name in absent:
-            found = self.numbers.get(name) if type(name) in (str, int) else None
-            if not found:
-                raise BadLine(number, f"a name in absent is one of nodes, and not {spelled(name)}")
-            if found in gone:
-                raise BadLine(number, f"absent names {shown(name)} twice")
-            gone.add(found)
-        return [node for node in range(1, len(self.all) + 1) if node not in gone]
-
-    def add(self, number: int, name: Any) -> int:
-        """Gives a new name the next number. Raises `BadLine`."""
-        if type(name) not in (str, int) or name == "":
-            raise BadLine(
-                number, f"a node's name is a text that is not empty, or a whole number, and not {spelled(name)}"
-            )
-        if str(name) in self.texts:
-            raise BadLine(number, f"two nodes have the name {shown(name)}")
-        if len(self.all) == self.capacity:
-            raise BadLine(
-                number,
-                f"{shown(name)} is one name more than the capacity, which is {self.capacity}: raise it in line 1",
-            )
-        self.texts.add(str(name))
-        self.all.append(name)
-        self.numbers[name] = len(self.all)
-        raw = json.dumps(name, ensure_ascii=False).encode("utf-8", "backslashreplace")
-        if b"\\" not in raw:
-            self.raw[raw] = len(self.all)
-        return len(self.all)
-
-    def number(self, line: int, name: Any) -> int:
-        kind = type(name)
-        if kind is str or kind is int:
-            found = self.numbers.get(name)
-            if found:
-                return found
-        raise BadLine(line, self.why_unknown(name))
-
-    def why_unknown(self, name: Any) -> str:
-        if type(name) not in (str, int):
-            return f"a node's name is a text or a whole number, and not {spelled(name)}"
-        other = str(name) if type(name) is int else int(name) if name.isdecimal() and len(name) < 20 else None
-        if other is not None and other in self.numbers:
-            return f"no node has the name {spelled(name)}: in this log it is {spelled(other)}"
-        return f"no node has the name {spelled(name)}: nodes are those of line 1, and later ones come by join"
-
-    def shown(self, number: int) -> str:
-        return shown(self.all[number - 1]) if number <= len(self.all) else f"node {number}"
-
-
 class LogJudge:
     """Judges a log line by line; the options are those of `conform`."""
 
@@ -205,8 +121,6 @@ class LogJudge:
         self.made_of = program, engine
         self.named: Optional[Named] = None
         self.has_flags = rules == "manne"
-        # numbers by names in the spelling of most writers
-        self.raw: dict[bytes, int] = {}
         self.machine: Engine
         self.state: State
         self.events = self.edits = self.faults = self.divergences = 0
@@ -215,11 +129,15 @@ class LogJudge:
         self.stopped, self.is_over, self.is_closed = "", False, False
         # the verdict up to an interrupt
         self.so_far: Optional[Conformance] = None
-        # the time of the line
+        # numbers by names in the spelling of most writers
+        self.raw: dict[bytes, int] = {}
+        # the present line, or its value, and its time
+        self.line: Any = None
         self.time: Optional[float] = None
         self.past: Histories
         self.rule: Rule
         self.reader: ViewReader
+        self.usual: UsualMoves
         self.reads: StaleReads
         self.diagnosis: Diagnosis
         self.viewed = self.wrong_views = self.stale_moves = 0
@@ -246,14 +164,15 @@ class LogJudge:
                 self.running.pass_over(bad)
         if self.running.waits:
             self.running.waits.settle()
+        if self.named and len(self.past.latest) > MOST_LATEST:
+            self.past.shorten(is_read=self.viewed > 0)
 
     def goes_on(self) -> bool:
         """Whether a bad line is passed over."""
         return self.skips_bad_lines and self.named is not None
 
     def take_lines(self, lines: Iterator[tuple[int, Any]]) -> None:
-        register, edge = log_lines.REGISTER.fullmatch, log_lines.EDGE.fullmatch
-        running = self.running
+        running, register = self.running, log_lines.REGISTER.fullmatch
         for here in lines:
             if self.is_over:
                 return
@@ -261,19 +180,16 @@ class LogJudge:
                 running.waits.settle()
             running.here = here
             number, line = here
+            self.line = line
             if type(line) is bytes:
                 found = register(line)
-                if found and self.take_register(number, line, found):
-                    self.events += 1
-                    continue
-                found = None if found else edge(line)
-                if found and self.take_edge(number, found):
+                if self.take_register(number, found) if found else self.take_rarer(number, line):
                     self.events += 1
                     continue
             elif type(line) is Flaw:
                 running.take_flaw(number, line, self.goes_on())
                 continue
-            event = log_lines.value_of(number, line)
+            self.line = event = log_lines.value_of(number, line)
             running.here = number, time_of(event)
             if self.named is None:
                 self.begin(number, event)
@@ -281,53 +197,62 @@ class LogJudge:
             self.take_event(number, event, self.named)
             self.events += 1
 
-    def take_register(self, number: int, line: bytes, found: re.Match[bytes]) -> bool:
+    def take_register(self, number: int, found: re.Match[bytes]) -> bool:
         """Judges a line that names one register; returns False if its names are not in the usual spelling."""
-        time, kind, name, target, flag, saw = found.groups()
-        node = self.raw.get(name)
-        if node is None:
+        stamp, kind, name, target, flag, saw = found.groups()
+        node, new = self.raw.get(name), -1 if target is None else self.raw.get(target)
+        if node is None or new is None:
             return False
-        view: Optional[View] = None
-        if saw is not None:
-            view = self.reader.usual(saw) if kind == b"move" else None
-            if view is None:
-                return False
-        self.time = None if time is None else float(time)
+        is_move = kind == b"move"
+        view = self.reader.usual(saw) if saw is not None and is_move else None
+        if view is None and saw is not None:
+            return False
+        self.time = None if stamp is None else float(stamp)
         state = self.state
-        old, was = state.pointers.get(node, 0) or self.dangling.get(node, 0), node in state.flags
-        if target is None:
-            seen = observed(node, old, old, was, flag == b"true")
-        else:
-            new = self.raw.get(target)
-            if new is None:
-                return False
-            seen = observed(node, old, new, was, was)
+        old, was = state.pointers.get(node, 0), node in state.flags
+        if self.dangling:
+            old = old or self.dangling.get(node, 0)
+        seen = written(node, old, was, new, flag == b"true")
         if view:
-            self.move_seen(number, line, seen, view)
-        elif kind == b"move":
-            self.move(number, line, seen)
+            self.move_seen(number, seen, view)
+        elif is_move:
+            self.move(number, seen)
         else:
-            self.fault(number, seen, target is not None, target is None)
+            self.fault(number, seen, new >= 0, new < 0)
         return True
 
-    def take_edge(self, number: int, found: re.Match[bytes]) -> bool:
-        time, kind, *names = found.groups()
-        a, b = map(self.raw.get, names)
-        if not self.named or not a or not b:
+    def take_rarer(self, number: int, line: bytes) -> bool:
+        """Judges an edge, or several moves at once, in the usual spelling; returns False for other lines."""
+        if self.named is None:
             return False
-        self.time = None if time is None else float(time)
-        self.edit_numbers(number, kind.decode(), [a, b], self.named)
-        return True
+        edge = log_lines.EDGE.fullmatch(line)
+        if edge:
+            a, b = self.raw.get(edge[3]), self.raw.get(edge[4])
+            if a and b:
+                self.time = None if edge[1] is None else float(edge[1])
+                self.edit_numbers(number, edge[2].decode(), [a, b], self.named)
+            return bool(a and b)
+        found = self.usual.moves(line)
+        if found:
+            self.time = None if found.stamp is None else float(found.stamp)
+            seen = [written(it.node, *self.held(it.node), it.pointer, it.flag) for it in found.writes]
+            self.moves(number, seen, found.views)
+        return found is not None
+
+    def held(self, node: int) -> tuple[int, bool]:
+        """A node's registers, a pointer across a link that is gone included."""
+        state = self.state
+        return state.pointers.get(node, 0) or self.dangling.get(node, 0), node in state.flags
 
     def begin(self, number: int, head: Any) -> None:
         named = Named(number, head, self.ignore_extra)
         present, count = named.present, len(named.all)
-        self.raw = named.raw
         base = base_of(self.rules, named.capacity, present) if len(present) < count else None
         self.machine = engine_of(self.rules, named.capacity, count, self.keeps, *self.made_of, base)
         self.state = State(self.rules, named.capacity, present)
         self.named = named
-        self.past, self.reader = Histories(named.capacity), ViewReader(self.rules, self.raw)
+        self.past, self.reader = Histories(named.capacity, self.age), ViewReader(self.rules, named.raw)
+        self.raw, self.usual = named.raw, UsualMoves(named.raw, self.reader)
         self.rule = rule_on_views(self.rules, *self.made_of)
         self.reads = StaleReads(self.state, self.past, self.dangling, self.shown, self.name)
         self.diagnosis = Diagnosis(self.state, self.past, self.reads, self.age, self.shown, self.name)
@@ -339,11 +264,12 @@ class LogJudge:
         if kind == "move":
             seen = self.observed(number, event, "move", named)
             if "saw" in event:
-                self.move_seen(number, event, seen, self.reader.read(number, event["saw"], named))
+                view = self.reader.read(number, event["saw"], named)
+                self.move_seen(number, seen, view)
             else:
-                self.move(number, event, seen)
+                self.move(number, seen)
         elif kind == "moves":
-            self.moves(number, event, *self.all_observed(number, event["moves"], named))
+            self.moves(number, *self.all_observed(number, event["moves"], named))
         elif kind == "fault":
             self.fault(number, self.observed(number, event, "fault", named), "pointer" in event, "flag" in event)
         else:
@@ -351,9 +277,8 @@ class LogJudge:
 
     def observed(self, number: int, event: Any, kind: str, named: Named) -> Observed:
         node = named.number(number, event[kind])
-        state = self.state
-        old = new = state.pointers.get(node, 0) or self.dangling.get(node, 0)
-        was = flag = node in state.flags
+        old, was = self.held(node)
+        new, flag = old, was
         if "pointer" in event:
             target = event["pointer"]
             new = 0 if target is None else named.number(number, target)
@@ -420,9 +345,9 @@ class LogJudge:
             for one, end in ((node, other), (other, node)):
                 self.reads.table.forget(one, end)
                 if state.pointers.get(one) == end:
-                    past.write(number, self.time, one, 0, one in state.flags)
+                    self.remember_write(number, one, 0, one in state.flags)
         if kind == "leave" and (node in state.flags or node in self.dangling):
-            past.write(number, self.time, node, 0, False)
+            self.remember_write(number, node, 0, False)
 
     def take_dangling(self, kind: str, numbers: Sequence[int]) -> None:
         """After an edit the machine takes over the pointers that cross a new link."""
@@ -452,41 +377,49 @@ class LogJudge:
 
     def write(self, number: int, seen: Observed, moved: bool = True) -> None:
         node, old, new, was, flag, _, _ = seen
-        running = self.running
-        running.registers[node] = running.here
+        running, state = self.running, self.state
+        running.registers[node] = here = running.here
         if running.waits:
-            running.waits.mark(running.here, (node,), moved)
-        if new != old:
-            self.state.point(node, new)
-        elif flag == was:
-            return
+            running.waits.mark(here, (node,), moved)
         if flag != was:
-            self.state.flag(node, flag)
-        self.past.write(number, self.time, node, new, flag)
+            state.flag(node, flag)
+        if new == old:
+            if flag == was:
+                return
+        elif new:
+            state.pointers[node] = new
+        else:
+            state.pointers.pop(node, None)
+        self.past.latest.append((node, number, self.time, new, flag, old, was))
 
-    def move(self, number: int, line: Any, seen: Observed) -> None:
+    def remember_write(self, number: int, node: int, pointer: int, flag: bool) -> None:
+        """Remembers what a node holds from this line on."""
+        self.past.write(number, self.time, node, pointer, flag, self.held(node))
+
+    def move(self, number: int, seen: Observed) -> None:
         """Asks the machine to make a move; a refusal is a divergence."""
         rule = self.asked(number, seen)
         if rule <= 0:
-            return self.diverge(number, line, [Judged(seen, None, 0)], -rule)
+            return self.diverge(number, [Judged(seen, None, 0)], -rule)
         self.counts[rule] += 1
         if self.resync:
-            self.tallies.moved(seen.node, rule)
+            self.tallies.move(seen.node, rule)
         self.write(number, seen)
 
     def asked(self, number: int, seen: Observed) -> int:
         """The rule of a move that the machine makes; else minus its refusal, 0 if it could not be asked."""
-        if seen.node in self.dangling:
+        node, _, _, _, _, wish, expected = seen
+        if self.dangling and node in self.dangling:
             return 0
-        if not self.can_be_asked(seen):
+        if not wish and not self.can_be_asked(seen):
             self.check_enabled(number, seen)
             return 0
-        rule = self.machine.moved(seen.node, seen.wish)
-        if rule > 0 and rule != seen.rule and (seen.rule or rule not in CHOOSING):
+        rule = self.machine.moved(node, wish)
+        if rule != expected and rule > 0 and (expected or rule not in CHOOSING):
             raise Garbled(f"line {number}: the machine moved by {MOVES[rule]}")
         return rule
 
-    def move_seen(self, number: int, line: Any, seen: Observed, view: View) -> None:
+    def move_seen(self, number: int, seen: Observed, view: View) -> None:
         """Judges a move by what its node saw, and has the machine make it."""
         verdict = self.rule.verdict(seen, view)
         self.viewed += 1
@@ -496,23 +429,36 @@ class LogJudge:
         if rule > 0 and verdict > 0:
             self.counts[rule] += 1
             if self.resync:
-                self.tallies.moved(seen.node, verdict)
+                self.tallies.move(seen.node, verdict)
             self.write(number, seen)
         else:
-            self.settle(number, line, [Judged(seen, view, verdict)], -rule, [rule] if rule > 0 else [])
+            self.settle(number, [Judged(seen, view, verdict)], -rule, [rule] if rule > 0 else [])
         self.last_seen[seen.node] = number, seen, view
 
-    def moves(self, number: int, line: Any, seen: Sequence[Observed], views: Sequence[Optional[View]]) -> None:
+    def moves(self, number: int, seen: Sequence[Observed], views: Sequence[Optional[View]]) -> None:
+        if not any(views):
+            return self.moves_unseen(number, seen)
         judged = [Judged(it, view, self.rule.verdict(it, view) if view else 0) for it, view in zip(seen, views)]
         for it, view, _ in judged:
             if view:
                 self.viewed += 1
                 if self.views:
                     self.reads.count(number, self.time, it.node, view)
-        self.settle(number, line, judged, *self.asked_at_once(number, seen))
+        self.settle(number, judged, *self.asked_at_once(number, seen))
         for it, view, _ in judged:
             if view:
                 self.last_seen[it.node] = number, it, view
+
+    def moves_unseen(self, number: int, seen: Sequence[Observed]) -> None:
+        """Several moves at once, none of which says what its node saw."""
+        refusal, made = self.asked_at_once(number, seen)
+        if not made:
+            return self.settle(number, [Judged(it, None, 0) for it in seen], refusal, made)
+        for it, rule in zip(seen, made):
+            self.counts[rule] += 1
+            if self.resync:
+                self.tallies.move(it.node, rule)
+            self.write(number, it)
 
     def asked_at_once(self, number: int, seen: Sequence[Observed]) -> tuple[int, Sequence[int]]:
         """The machine's refusal, 0 if it could not be asked; and, if it made the moves, their rules."""
@@ -531,15 +477,15 @@ class LogJudge:
                 raise Garbled(f"line {number}: the machine's moves are {moves}")
         return refusal, [] if refusal else [made[it.node] for it in seen]
 
-    def settle(self, number: int, line: Any, judged: Sequence[Judged], refusal: int, made: Sequence[int]) -> None:
+    def settle(self, number: int, judged: Sequence[Judged], refusal: int, made: Sequence[int]) -> None:
         """Reports moves that are wrong; follows those that the machine made, and writes others as faults."""
         wrong = [it for it in judged if it.view and it.verdict <= 0]
         self.wrong_views += len(wrong)
         reported = [it for it in wrong if self.views] + ([] if made or not self.views else self.by_order(judged))
         if not made and (not self.views or not (reported or any(it.view for it in judged))):
-            return self.diverge(number, line, judged, refusal)
+            return self.diverge(number, judged, refusal)
         for it in reported:
-            self.report(number, line, [it], refusal, it.seen)
+            self.report(number, [it], refusal, it.seen)
         told = {id(it) for it in reported}
         for at, it in enumerate(judged):
             if made:
@@ -567,9 +513,9 @@ class LogJudge:
         rule = it.verdict if it.view and it.verdict > 0 else rule or self.rule_for(it.seen)
         if is_stale and (it.seen.node in self.dangling or not is_allowed(self.state, it.seen)):
             self.stale_moves += 1
-            self.tallies.diverged(it.seen.node, rule, STALE)
+            self.tallies.diverge(it.seen.node, rule, STALE)
         else:
-            self.tallies.moved(it.seen.node, rule)
+            self.tallies.move(it.seen.node, rule)
 
     def can_be_asked(self, seen: Observed) -> bool:
         """Whether a step that the machine accepts must be the one observed.
@@ -591,22 +537,22 @@ class LogJudge:
         if rule and RULES[rule] == odd.rule:
             raise Garbled(f"line {number}: the machine has {rule} enabled at {self.shown(odd.node)}")
 
-    def diverge(self, number: int, line: Any, judged: Sequence[Judged], refusal: int) -> None:
+    def diverge(self, number: int, judged: Sequence[Judged], refusal: int) -> None:
         """Reports moves that the machine refuses; writes them as faults if the judge goes on."""
         bad = self.diagnosis.bad_of(judged) or judged[0]
-        self.report(number, line, judged, refusal, bad.seen)
+        self.report(number, judged, refusal, bad.seen)
         if not self.resync:
             self.is_over = True
             return
         for it in judged:
             if it is not bad:
-                self.tallies.moved(it.seen.node, self.rule_for(it.seen))
+                self.tallies.move(it.seen.node, self.rule_for(it.seen))
         for it in judged:
             if not self.is_over:
                 self.write_as_fault(number, it.seen)
 
-    def report(self, number: int, line: Any, judged: Sequence[Judged], refusal: int, bad: Observed) -> None:
-        place = LogPosition(number, self.time, line, self.machine.entry())
+    def report(self, number: int, judged: Sequence[Judged], refusal: int, bad: Observed) -> None:
+        place = LogPosition(number, self.time, self.line, self.machine.entry())
         found = self.diagnosis.divergence(place, judged, refusal, self.last_seen)
         is_unexplained = found.kind == "order" and not found.hint
         crossing = self.running.crossing(number, bad.node, bad.new) if is_unexplained else ""
@@ -616,7 +562,7 @@ class LogJudge:
         is_stale = found.kind == "stale" or (found.kind == "order" and found.hint)
         if found.kind == "stale":
             self.stale_moves += 1
-        self.tallies.diverged(bad.node, self.rule_for(bad), STALE if is_stale else WRONG)
+        self.tallies.diverge(bad.node, self.rule_for(bad), STALE if is_stale else WRONG)
         if self.on_divergence:
             self.on_divergence(found)
 
@@ -652,10 +598,10 @@ class LogJudge:
                 self.stopped = f"{where(number)}: no fault can write this ({what}): {refusal_text(refusal)}"
                 self.is_over = True
                 return
+        if (seen.new, seen.flag) != (seen.old, seen.was):
+            self.past.write(number, self.time, node, seen.new, seen.flag, (seen.old, seen.was))
         state.point(node, new)
         state.flag(node, seen.flag)
-        if (seen.new, seen.flag) != (seen.old, seen.was):
-            self.past.write(number, self.time, node, seen.new, seen.flag)
 
     def shown(self, number: int) -> str:
         return self.named.shown(number) if self.named else str(number)
@@ -708,49 +654,6 @@ class LogJudge:
         if self.named and not self.is_closed:
             self.is_closed = True
             self.machine.close()
-
-
-class Transcript:
-    """The transcript and the file of names: they go into files, or nowhere.
-
-    A file takes its place at the end, also at an end by an error: it then has the transcript so far.
-    """
-
-    def __init__(self, target: Target) -> None:
-        self.target = target
-        self.file: Union[WholeFile, BinaryIO, None] = None
-
-    def __enter__(self) -> Transcript:
-        return self
-
-    def write(self, text: bytes) -> None:
-        """Writes the next text. The first text opens the file; so without text an older file stays."""
-        if not text or self.target is None:
-            return
-        if self.file is None:
-            self.begin(self.target)
-        if self.file:
-            self.file.write(text)
-
-    def begin(self, target: Union[str, os.PathLike[str], BinaryIO]) -> None:
-        if isinstance(target, (str, os.PathLike)):
-            self.file = file = WholeFile(target)
-            file.begin()
-        else:
-            self.file = target
-
-    def __exit__(self, kind: Optional[type[BaseException]], *_: object) -> None:
-        file = self.file
-        if isinstance(file, WholeFile):
-            try:
-                file.close()
-            except BaseException:
-                file.drop()
-                raise
-
-    def write_names(self, names: Sequence[Name]) -> None:
-        if isinstance(self.file, WholeFile) and self.file.is_beside and self.file.file:
-            write_names(f"{self.file.path}.names", names)
 
 
 def judge_blocks(judge: LogJudge, log: Input, target: Target) -> Conformance:

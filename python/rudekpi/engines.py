@@ -2,7 +2,9 @@
 
 from __future__ import annotations
 
+import array
 import ctypes
+from itertools import chain
 from typing import Iterator, NamedTuple, Optional, Protocol, Sequence
 
 from .direct import Direct
@@ -12,6 +14,7 @@ from .names import Names
 from .network import Network
 from .program import Program
 from .replies import Wish
+from .state import WORDS
 
 # how many rows of moves, and of words, a step of one node has
 ONE = ctypes.c_size_t(1)
@@ -75,6 +78,8 @@ class OfLibrary:
         told, items, row = ((ctypes.c_uint32 * 8)(), (ctypes.c_uint32 * 2)(), (ctypes.c_uint32 * ROW_NUMBERS)())
         self.told_at, self.items_at, self.row_at = map(ctypes.byref, (told, items, row))
         self.told, self.item, self.row = (memoryview(it).cast("B").cast("I") for it in (told, items, row))
+        self.edits = {word: getattr(library, word) for word in WORDS}
+        self.step_call, self.rows_call = library.step, library.rows
         if not keeps:
             self.checked(library.transcript(self.at, ctypes.c_bool(False)))
 
@@ -87,20 +92,22 @@ class OfLibrary:
         return self.told[REFUSAL]
 
     def edit(self, word: str, *numbers: int) -> int:
-        return self.checked(getattr(self.library, word)(self.at, *numbers, self.told_at))
+        status = self.edits[word](self.at, *numbers, self.told_at)
+        return self.checked(status) if status else 0
 
     def moved(self, node: int, wish: int) -> int:
-        item, row = self.item, self.row
+        item = self.item
         item[0], item[1] = node, wish
-        status = self.library.step(self.at, self.items_at, ONE, self.told_at)
+        status = self.step_call(self.at, self.items_at, ONE, self.told_at)
         if status:
             return -self.checked(status)
-        self.library.rows(self.at, self.row_at, ONE)
-        return row[1]
+        self.rows_call(self.at, self.row_at, ONE)
+        return self.row[1]
 
     def step(self, items: Sequence[tuple[int, int]]) -> Stepped:
-        given = (ctypes.c_uint32 * (2 * len(items)))(*(number for item in items for number in item))
-        refusal = self.checked(self.library.step(self.at, given, ctypes.c_size_t(len(items)), self.told_at))
+        given = array.array("I", chain.from_iterable(items))
+        at, size = ctypes.c_void_p(given.buffer_info()[0]), ctypes.c_size_t(len(items))
+        refusal = self.checked(self.step_call(self.at, at, size, self.told_at))
         return Stepped(refusal, () if refusal else [*self.rows(len(items))])
 
     def rows(self, most: int) -> Iterator[tuple[int, int, int]]:

@@ -27,6 +27,9 @@ VALUE = rb'(?:"pointer": ?(' + NAME + rb'|null)|"flag": ?(true|false))'
 # what the node saw, without its brackets; `views` reads it
 SAW = rb'(?:, ?"saw": ?\{(.*)\]\})?'
 REGISTER = re.compile(START + rb'"(move|fault)": ?(' + NAME + rb"), ?" + VALUE + SAW + END)
+MOVE = re.compile(rb'"move": ?(' + NAME + rb"), ?" + VALUE)
+# what stands between a move's register and what its node saw
+SAWS = b', "saw": {', b',"saw":{'
 EDGE = re.compile(START + rb'"(link|unlink)": ?\[(' + NAME + rb"), ?(" + NAME + rb")\]" + END)
 # how many characters of a line or a name a message shows
 SHOWN = 200

@@ -9,7 +9,7 @@ from .library import MOVES
 from .local_rules import REPAIR
 from .replies import Name
 
-MOVED, WRONG, STALE = range(3)
+WRONG, STALE = range(2)
 # the rules by their numbers
 RULES = ("none", *MOVES[1:], "repair")
 assert RULES[REPAIR] == "repair"
@@ -34,31 +34,23 @@ class MoveTally:
 
 class MoveTallies:
     def __init__(self) -> None:
-        # by node, and by the rule's number, the counts
-        self.counts: dict[int, list[list[int]]] = {}
+        # by node and rule's number, in one number: the moves that did not diverge, and those that did by kind
+        self.moved: dict[int, int] = {}
+        self.counts: dict[int, list[int]] = {}
 
-    def of(self, node: int) -> list[list[int]]:
-        found = self.counts.get(node)
-        if found is None:
-            found = self.counts[node] = [[0, 0, 0] for _ in RULES]
-        return found
+    def move(self, node: int, rule: int) -> None:
+        at = node * len(RULES) + rule
+        self.moved[at] = self.moved.get(at, 0) + 1
 
-    def moved(self, node: int, rule: int) -> None:
-        self.of(node)[rule][MOVED] += 1
-
-    def diverged(self, node: int, rule: int, kind: int) -> None:
-        counts = self.of(node)[rule]
-        counts[MOVED] += 1
-        counts[kind] += 1
+    def diverge(self, node: int, rule: int, kind: int) -> None:
+        self.counts.setdefault(node * len(RULES) + rule, [0, 0])[kind] += 1
 
     def rows(self, name: Callable[[int], Name]) -> tuple[MoveTally, ...]:
         """The tallies with divergences or stale moves: the most wrong ones first."""
-        found = [
-            MoveTally(name(node), RULES[rule], *counts)
-            for node, by_rule in self.counts.items()
-            for rule, counts in enumerate(by_rule)
-            if counts[WRONG] or counts[STALE]
-        ]
+        found = []
+        for at, (wrong, stale) in self.counts.items():
+            node, rule = divmod(at, len(RULES))
+            found.append(MoveTally(name(node), RULES[rule], self.moved.get(at, 0) + wrong + stale, wrong, stale))
         # those of equal counts stay in the order of the log
         return tuple(sorted(found, key=lambda row: (-row.wrong, -row.stale)))
 

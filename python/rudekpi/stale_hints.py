@@ -43,10 +43,13 @@ class StaleHints:
     def candidates(self, first: int, node: int) -> Iterator[Before]:
         """The writes of neighbours, and the changes of links, at the first line or later."""
         for line, _, other, came in self.past.changes_since(node, first):
-            yield Before(line, other, self.past.at(other, line), came)
+            yield Before(line, other, self.past.at(other, line) or self.present(other), came)
         for other in self.state.neighbours[node]:
             for line, held in self.past.writes_since(other, first):
                 yield Before(line, other, (held[2], held[3]), None)
+
+    def present(self, node: int) -> Tuple[int, bool]:
+        return self.state.pointers.get(node, 0), node in self.state.flags
 
     def was_allowed(self, bad: Observed, before: Before) -> bool:
         """Whether the move was allowed before a line, as far as that line concerns its node and one other."""

@@ -21,7 +21,7 @@ from .reasons import Reasons
 from .state import State
 
 if TYPE_CHECKING:
-    from .conformance import Named
+    from .log_names import Named
 
 TWICE, OWN, AT_ITSELF, AT_STRANGER = map(
     VIEW_FAULTS.index, ("not-ascending", "own-neighbour", "points-at-itself", "points-at-stranger")
@@ -64,9 +64,10 @@ class ViewReader:
             if not all(made):
                 return None
             found = [it for it in made if it]
-        if len(found) > 1 and len({it[0] for it in found}) < len(found):
+        if len({it[0] for it in found}) < len(found):
             return None
-        return view_of(found)
+        found.sort()
+        return tuple.__new__(View, (found, b"".join([it[3] for it in found])))
 
     def spelling(self, part: bytes) -> Optional[Seen]:
         found = SEEN.fullmatch(part)
