@@ -1,6 +1,6 @@
 //! A node's pointer in two bytes.
 
-ghost use Rattle.std.specs.Prelude.{◌≡◌, None};
+ghost use Rattle.std.specs.Prelude.{◌≡◌, is_none};
 ghost use Rattle.rule_machine.specs.State.{is_at};
 
 use rule_machine::Node;
@@ -45,6 +45,14 @@ impl Pointer {
         ensures { result ≡ self }
     {
         Node::new(u32::from(self.name))
+    }
+
+    /// Whether the pointer is null.
+    #[inline(always)]
+    pub fn is_null(self) -> bool
+        ensures { result ≡ is_none self }
+    {
+        self.name == 0
     }
 
     /// Whether the pointer is at `w`.

@@ -44,7 +44,7 @@ pub(crate) fn look_at_target<R: Rules>(
     ensures { IsRefreshed R.table state.now.state (is_null_target state.now.state target) enabled.old enabled.new }
 {
     if let Some(w) = target {
-        look_if(state, enabled, w, state.registers().pointer(w).is_none());
+        look_if(state, enabled, w, state.has_null(w));
     }
 }
 
@@ -62,7 +62,7 @@ fn look_at_suitors<R: Rules>(state: &IndexedNet<'_, R>, enabled: &mut EnabledSet
         return;
     }
     for &w in neighbours {
-        look_if(state, enabled, w, state.registers().points_at(w, v));
+        look_if(state, enabled, w, state.points(w, v));
     }
 }
 
@@ -73,11 +73,7 @@ fn turns_with<R: Rules>(state: &IndexedNet<'_, R>, w: Node, v: Node, is_open: bo
     requires open { is_open ≡ RuleTable.is_open R.table.opens state.now.state v }
     ensures { result ≡ turns_with R.COURTS_HIGHER_ONLY R.table.opens state.now.state v w }
 {
-    // The counts come first: they mostly agree for successive neighbours, so the branch is well predicted.
-    if !state.is_only_open_neighbour(w, v, is_open) {
-        return false;
-    }
-    state.registers().pointer(w).is_none()
+    state.is_turned_by(w, v, is_open)
 }
 
 /// Evaluates guards again at neighbours that point nowhere and see an open node exactly if `v` is open.

@@ -1,37 +1,38 @@
 -- A node's counts decide whether a search among its neighbours finds something.
-use Rattle.suitor_index.proofs.Prelude.{◌≡◌, ◌≢◌, ℕ, zero, suc, ◌+◌, ◌≤◌, Bool, true, false, cond, not, ◌&&◌, reverse, find, Option, Some, None, SomeIff, is_some, nat_eq, nat_lt, nat_le, IsTrue, MatchOption, refl, sym, ap, ap₂, ◌∙◌, subst, ⊎_elim, arith, count_by, sum_by, and_parts, cases_eq, eq-eqb, false_from_ne_true, le-leb, lt-leb, lt-ltb, ne_eqb, true≢false, Network, IsNetwork, linked, neighbours, State, IsState, suits, has_suitor, first_suitor, is_open, is_reached, near_found, near_some, linked_back, linked_present, present_range, Tally, suitor_count, tally_at, name_if, IsLoneSuitor, one_if}
+use Rattle.suitor_index.proofs.Prelude.{◌≡◌, ◌≢◌, ℕ, zero, suc, ◌+◌, ◌%◌, ◌≤◌, Bool, true, false, cond, not, ◌&&◌, reverse, find, Option, Some, None, SomeIff, is_some, nat_eq, nat_lt, nat_le, IsTrue, MatchOption, refl, sym, ap, ap₂, ◌∙◌, subst, ⊎_elim, arith, count_by, sum_by, and_parts, cases_eq, eq-eqb, false_from_ne_true, le-leb, lt-leb, lt-ltb, ne_eqb, true≢false, Network, IsNetwork, linked, neighbours, State, IsState, suits, has_suitor, first_suitor, is_open, is_reached, near_found, near_some, linked_back, linked_present, present_range, Tally, reduced, suitor_count, tally_at, name_if, IsLoneSuitor, one_if}
 use Rattle.suitor_index.proofs.NeighbourSums.{near_turn}
 use Rattle.suitor_index.proofs.Sums.{count_some, count_none, count_one, count_reverse}
 
-pub suitors_counted : (above : Bool) (opens : Option ℕ → Bool → Bool) (s : State) (v : ℕ) (t : Tally) → t ≡ tally_at above opens s v → nat_lt 0 t.suitors ≡ has_suitor s v
+pub suitors_counted : (above : Bool) (opens : Option ℕ → Bool → Bool) (s : State) (v : ℕ) (t : Tally) → reduced t ≡ tally_at above opens s v → nat_lt 0 t.suitors ≡ has_suitor s v
 suitors_counted above opens s v t is = ap (λ (u : Tally). nat_lt 0 u.suitors) is ∙ count_some (suits s v) (neighbours s.network v)
 
 -- the open neighbours, if the guards ask for any
-pub open_counted : (above : Bool) (opens : Option ℕ → Bool → Bool) (s : State) (v : ℕ) (t : Tally) → above ≡ false → t ≡ tally_at above opens s v → t.reached ≡ count_by (is_open opens s) (neighbours s.network v)
+pub open_counted : (above : Bool) (opens : Option ℕ → Bool → Bool) (s : State) (v : ℕ) (t : Tally) → above ≡ false → reduced t ≡ tally_at above opens s v → t.reached ≡ count_by (is_open opens s) (neighbours s.network v)
 open_counted above opens s v t any is =
     ap (λ (u : Tally). u.reached) is ∙ ap (λ a. count_by (is_reached a opens s v) (neighbours s.network v)) any
 
 -- and those above the node, if they ask for those alone
-pub open_above_counted : (above : Bool) (opens : Option ℕ → Bool → Bool) (s : State) (v : ℕ) (t : Tally) → above ≡ true → t ≡ tally_at above opens s v → t.reached ≡ count_by (λ w. is_open opens s w && nat_lt v w) (reverse (neighbours s.network v))
+pub open_above_counted : (above : Bool) (opens : Option ℕ → Bool → Bool) (s : State) (v : ℕ) (t : Tally) → above ≡ true → reduced t ≡ tally_at above opens s v → t.reached ≡ count_by (λ w. is_open opens s w && nat_lt v w) (reverse (neighbours s.network v))
 open_above_counted above opens s v t higher is =
     ap (λ (u : Tally). u.reached) is
     ∙ ap (λ a. count_by (is_reached a opens s v) (neighbours s.network v)) higher
     ∙ sym (count_reverse (λ w. is_open opens s w && nat_lt v w) (neighbours s.network v))
 
 -- no suitor
-pub no_suitor_counted : (above : Bool) (opens : Option ℕ → Bool → Bool) (s : State) (v : ℕ) (t : Tally) → t ≡ tally_at above opens s v → t.suitors ≡ 0 → None ≡ first_suitor s v
+pub no_suitor_counted : (above : Bool) (opens : Option ℕ → Bool → Bool) (s : State) (v : ℕ) (t : Tally) → reduced t ≡ tally_at above opens s v → t.suitors ≡ 0 → None ≡ first_suitor s v
 no_suitor_counted above opens s v t is none =
     sym (count_none (suits s v) (neighbours s.network v) (sym (ap (λ (u : Tally). u.suitors) is) ∙ none))
 
 -- one suitor, whose name is the sum
-pub one_suitor_counted : (above : Bool) (opens : Option ℕ → Bool → Bool) (s : State) (v : ℕ) (t : Tally) (o : Option ℕ) → IsState s → t ≡ tally_at above opens s v → s.network.size ≤ 65535 → t.suitors ≡ 1 → SomeIff o ((1 ≤ t.sum) × (t.sum ≤ 65535)) t.sum → o ≡ first_suitor s v
-one_suitor_counted above opens s v t o is_state is few one named =
+pub one_suitor_counted : (above : Bool) (opens : Option ℕ → Bool → Bool) (s : State) (v : ℕ) (t : Tally) (o : Option ℕ) → IsState s → reduced t ≡ tally_at above opens s v → s.network.size ≤ 65535 → t.sum ≤ 65535 → t.suitors ≡ 1 → SomeIff o ((1 ≤ t.sum) × (t.sum ≤ 65535)) t.sum → o ≡ first_suitor s v
+one_suitor_counted above opens s v t o is_state is few small one named =
     let w = sum_by (name_if (suits s v)) (neighbours s.network v) in
-    let sum : t.sum ≡ w = ap (λ (u : Tally). u.sum) is in
+    let low : t.sum % 65536 ≡ w % 65536 = ap (λ (u : Tally). u.sum) is in
     let found : first_suitor s v ≡ Some w = count_one (suits s v) (neighbours s.network v) (sym (ap (λ (u : Tally). u.suitors) is) ∙ one) in
     let near = near_some s.network (suits s v) v w found in
     let bounds = present_range s.network w (linked_present s.network w v is_state.is_network (linked_back s.network w v ∙ near.0)) in
-    named_some o _ t.sum named (omega arith, omega arith) ∙ ap Some sum ∙ sym found
+    let sum : t.sum ≡ w = omega (arith, low, small, bounds.1, few) in
+    named_some o _ t.sum named (omega (arith, sum, bounds.0), small) ∙ ap Some sum ∙ sym found
   where
     named_some : (o : Option ℕ) (P : Type 0) (x : ℕ) → SomeIff o P x → P → o ≡ Some x
     named_some None P x h p = absurd (h p)
@@ -89,9 +90,9 @@ lone s v w is_state one first = record {
         true≢false (sym (ap is_some found.1) ∙ none)
 
 -- so it is if the count is 1 and the sum its name
-pub lone_counted : (above : Bool) (opens : Option ℕ → Bool → Bool) (s : State) (v : ℕ) (t : Tally) (o : Option ℕ) → IsState s → t ≡ tally_at above opens s v → s.network.size ≤ 65535 → t.suitors ≡ 1 → SomeIff o ((1 ≤ t.sum) × (t.sum ≤ 65535)) t.sum → MatchOption o (suitor_count s v ≢ 1) (IsLoneSuitor s v)
-lone_counted above opens s v t o is_state is few one named =
+pub lone_counted : (above : Bool) (opens : Option ℕ → Bool → Bool) (s : State) (v : ℕ) (t : Tally) (o : Option ℕ) → IsState s → reduced t ≡ tally_at above opens s v → s.network.size ≤ 65535 → t.sum ≤ 65535 → t.suitors ≡ 1 → SomeIff o ((1 ≤ t.sum) × (t.sum ≤ 65535)) t.sum → MatchOption o (suitor_count s v ≢ 1) (IsLoneSuitor s v)
+lone_counted above opens s v t o is_state is few small one named =
     let count : suitor_count s v ≡ 1 = sym (ap (λ (u : Tally). u.suitors) is) ∙ one in
     let w = sum_by (name_if (suits s v)) (neighbours s.network v) in
     let first : first_suitor s v ≡ Some w = count_one (suits s v) (neighbours s.network v) count in
-    subst (λ q. MatchOption q (suitor_count s v ≢ 1) (IsLoneSuitor s v)) (sym (one_suitor_counted above opens s v t o is_state is few one named ∙ first)) (lone s v w is_state count first)
+    subst (λ q. MatchOption q (suitor_count s v ≢ 1) (IsLoneSuitor s v)) (sym (one_suitor_counted above opens s v t o is_state is few small one named ∙ first)) (lone s v w is_state count first)

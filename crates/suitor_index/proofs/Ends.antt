@@ -1,8 +1,8 @@
 -- What an edge changes in the counts of its two ends.
-use Rattle.suitor_index.proofs.Prelude.{◌≡◌, ◌≢◌, ℕ, ◌+◌, Bool, true, false, cond, ◌&&◌, List, Option, nat_eq, IsTrue, sym, ap, ◌∙◌, ⊎_elim, arith, sum_by, cases_eq, eq-eqb, ne_eqb, Network, linked, neighbours, present, Registers, points, pointer_of, flag_of, Tally, state_of, asks_for, tally_of, tally_at, IsIndexOf, one_if, IsOpenTo}
+use Rattle.suitor_index.proofs.Prelude.{◌≡◌, ◌≢◌, ℕ, ◌+◌, ◌%◌, Bool, true, false, cond, ◌&&◌, List, Option, nat_eq, IsTrue, sym, ap, ◌∙◌, ⊎_elim, arith, sum_by, cases_eq, eq-eqb, ne_eqb, Network, linked, neighbours, present, Registers, points, pointer_of, flag_of, Tally, state_of, asks_for, tally_of, tally_at, IsIndexOf, one_if, IsOpenTo}
 use Rattle.suitor_index.proofs.NeighbourSums.{term, near_turn, near_same}
 use Rattle.suitor_index.proofs.OpenTargets.{open_is}
-use Rattle.suitor_index.proofs.OtherTallies.{tally_is}
+use Rattle.suitor_index.proofs.OtherTallies.{names_at, tally_is}
 
 -- the second network is the first with the edge between a and b, which no pointer crosses
 pub record IsEdgeMore (net more : Network) (r : Registers) (a b : ℕ) : Type 0 where
@@ -86,12 +86,15 @@ pub record IsTallyMore (above : Bool) (opens : Option ℕ → Bool → Bool) (ne
   pub sum : (tally_at above opens (state_of more r) k).sum ≡ (tally_at above opens (state_of net r) k).sum
   pub reached : (tally_at above opens (state_of more r) k).reached ≡ (tally_at above opens (state_of net r) k).reached + one_if (end_of above opens r b a k) + one_if (end_of above opens r a b k)
 
+same_names : (net more : Network) (r : Registers) (a b k : ℕ) → IsEdgeMore net more r a b → names_at (state_of more r) k ≡ names_at (state_of net r) k
+same_names net more r a b k e = omega (arith, edge_sum net more r a b k (λ x. cond (points r x k) x 0) e, no_pointer r a b k b e.not_back, no_pointer r b a k a e.not_there)
+
 pub tally_more : (above : Bool) (opens : Option ℕ → Bool → Bool) (net more : Network) (r : Registers) (a b k : ℕ) → IsEdgeMore net more r a b → IsTallyMore above opens net more r a b k
 tally_more above opens net more r a b k e =
     let open_at : ℕ → Bool = λ x. opens (pointer_of r x) (flag_of r x) in
     record {
       suitors = omega (arith, edge_sum net more r a b k (λ x. cond (points r x k) 1 0) e, no_pointer r a b k 1 e.not_back, no_pointer r b a k 1 e.not_there);
-      sum = omega (arith, edge_sum net more r a b k (λ x. cond (points r x k) x 0) e, no_pointer r a b k b e.not_back, no_pointer r b a k a e.not_there);
+      sum = ap (λ n. n % 65536) (same_names net more r a b k e);
       reached = omega (arith, edge_sum net more r a b k (λ x. cond (asks_for above k x && open_at x) 1 0) e, open_is above opens (state_of net r) k, open_is above opens (state_of more r) k, open_end above (open_at b) a b k, open_end above (open_at a) b a k);
     }
 
@@ -105,7 +108,8 @@ index_more above opens net more r a b start half done e index one two = record {
       tally_is (tally_of done k) (tally_at above opens (state_of more r) k)
       (two.suitors k ∙ one.suitors k ∙ ap (λ (x : Tally). x.suitors) was ∙ sym t.suitors)
       (let p = two.reached k in let q = one.reached k in let x = ap (λ (x : Tally). x.reached) was in let y = t.reached in omega (arith, p, q, x, y))
-      (two.sum k ∙ one.sum k ∙ ap (λ (x : Tally). x.sum) was ∙ sym t.sum);
+      (ap (λ n. n % 65536) (two.sum k ∙ one.sum k) ∙ ap (λ (x : Tally). x.sum) was ∙ sym t.sum)
+      (two.aims k ∙ one.aims k ∙ ap (λ (x : Tally). x.pointer) was);
 }
 
 -- and updated for its removal, those of the state without it
@@ -118,5 +122,6 @@ index_less above opens net more r a b start half done e index two one = record {
       tally_is (tally_of done k) (tally_at above opens (state_of net r) k)
       (sym (one.suitors k) ∙ sym (two.suitors k) ∙ ap (λ (x : Tally). x.suitors) was ∙ t.suitors)
       (let p = two.reached k in let q = one.reached k in let x = ap (λ (x : Tally). x.reached) was in let y = t.reached in omega (arith, p, q, x, y))
-      (sym (one.sum k) ∙ sym (two.sum k) ∙ ap (λ (x : Tally). x.sum) was ∙ t.sum);
+      (ap (λ n. n % 65536) (sym (one.sum k) ∙ sym (two.sum k)) ∙ ap (λ (x : Tally). x.sum) was ∙ t.sum)
+      (sym (one.aims k) ∙ sym (two.aims k) ∙ ap (λ (x : Tally). x.pointer) was);
 }

@@ -14,6 +14,7 @@ turned_both was is p q r a b c apart joined first second = record {
   places = second.places ∙ first.places;
   suitors = λ k. second.suitors k ∙ first.suitors k;
   sum = λ k. second.sum k ∙ first.sum k;
+  aims = λ k. second.aims k ∙ first.aims k;
   reached = λ k. turned_sum was is _ _ _ _ _ _ (ap one_if (joined k) ∙ one_or (p k) (q k) (apart k)) (first.reached k) (second.reached k);
 }
 
@@ -23,6 +24,7 @@ turned_alike was is p q a b same told = record {
   places = told.places;
   suitors = told.suitors;
   sum = told.sum;
+  aims = told.aims;
   reached = λ k. subst (λ t. (tally_of b k).reached + cond was (one_if t) 0 ≡ (tally_of a k).reached + cond is (one_if t) 0) (same k) (told.reached k);
 }
 

@@ -1,5 +1,5 @@
 -- An index that is updated for one node's change.
-use Rattle.suitor_index.proofs.Prelude.{◌≡◌, ℕ, ◌<◌, ◌≤◌, Bool, true, ◌&&◌, List, length, Option, Some, IfSome, nat_eq, IsTrue, refl, sym, ap, ap₂, ◌∙◌, subst, arith, list_any, IsStrictlyIncreasing, and_parts, Network, linked, neighbours, present, State, Registers, IsState, pointer, flag, pointer_of, flag_of, with_pointer, with_flag, is_open, pointer-with_pointer_other, pointer-with_pointer_same, flag-with_flag_other, flag-with_flag_same, if_some_from, linked_back, linked_present, present_range, pointer_linked, Tally, StateView, IsChange, state_of, Pointed, Flagged, WasIndexed, asks_for, tally_of, IsIndexOf, IsIndexed, AddsSuitor, IsRepointed, IsTurned, HasSuitor, HasTallyRoom, CanTurn}
+use Rattle.suitor_index.proofs.Prelude.{◌≡◌, ℕ, ◌<◌, ◌≤◌, Bool, true, ◌&&◌, List, length, Option, Some, IfSome, nat_eq, IsTrue, refl, sym, ap, ap₂, ◌∙◌, subst, arith, list_any, IsStrictlyIncreasing, and_parts, Network, linked, neighbours, present, State, Registers, IsState, pointer, flag, pointer_of, flag_of, with_pointer, with_flag, is_open, pointer-with_pointer_other, pointer-with_pointer_same, flag-with_flag_other, flag-with_flag_same, if_some_from, linked_back, linked_present, present_range, pointer_linked, Tally, StateView, IsChange, state_of, Pointed, Flagged, WasIndexed, asks_for, tally_of, IsIndexOf, IsIndexed, AddsSuitor, IsAimed, IsRepointed, IsTurned, HasSuitor, HasTallyRoom, CanTurn}
 use Rattle.suitor_index.proofs.NeighbourSums.{listed_linked, neighbours_rise}
 use Rattle.suitor_index.proofs.OtherTallies.{AreAlike, near, has_suitor, has_room, can_turn, index_turned}
 
@@ -56,7 +56,7 @@ pub target_present : (s : State) (v w : ℕ) → IsState s → pointer s v ≡ S
 target_present s v w good at = near_present s.network s.registers v w good (pointer_linked s v w good at)
 
 -- the old target has v among its suitors
-pub old_counted : (above : Bool) (opens : Option ℕ → Bool → Bool) (start : List Tally) (now : StateView) (v : ℕ) (was is : Option ℕ) (told : WasIndexed above opens start (Pointed v was is) now) → IfSome was (λ w. HasSuitor v (tally_of start w))
+pub old_counted : (above : Bool) (opens : Option ℕ → Bool → Bool) (start : List Tally) (now : StateView) (v : ℕ) (was is : Option ℕ) (told : WasIndexed above opens start (Pointed v was is) now) → IfSome was (λ w. HasSuitor (tally_of start w))
 old_counted above opens start now v was is told =
     let r = told.0.state.registers in
     let net = now.state.network in
@@ -64,7 +64,7 @@ old_counted above opens start now v was is told =
     if_some_from was _ (λ w e. let at = sym told.1.0.due.1 ∙ e in has_suitor above opens net r v w start c.before c.index c.here (target_present (state_of net r) v w c.before at) at)
 
 -- the new target has room for it
-pub new_fits : (above : Bool) (opens : Option ℕ → Bool → Bool) (start : List Tally) (now : StateView) (v : ℕ) (was is : Option ℕ) (told : WasIndexed above opens start (Pointed v was is) now) (left : List Tally) → AddsSuitor was v left start → IfSome is (λ w. HasTallyRoom v (tally_of left w))
+pub new_fits : (above : Bool) (opens : Option ℕ → Bool → Bool) (start : List Tally) (now : StateView) (v : ℕ) (was is : Option ℕ) (told : WasIndexed above opens start (Pointed v was is) now) (left : List Tally) → AddsSuitor was v left start → IfSome is (λ w. HasTallyRoom (tally_of left w))
 new_fits above opens start now v was is told left out =
     let c = point_write above opens start now v was is told in
     if_some_from is _ (
@@ -85,14 +85,16 @@ new_within above opens start now v was is told left out =
     omega (arith, bounds.1, out.places, c.index.places)
     )
 
--- removed at the old target and added at the new one
-pub repointed : (v : ℕ) (start left pointed : List Tally) (old new p q : Option ℕ) → p ≡ old → new ≡ q → AddsSuitor old v left start → AddsSuitor new v left pointed → IsRepointed p q v start pointed
-repointed v start left pointed old new p q was is out into =
+-- removed at the old target and added at the new one, to which v then points
+pub repointed : (v : ℕ) (start left moved pointed : List Tally) (old new p q : Option ℕ) → p ≡ old → new ≡ q → AddsSuitor old v left start → AddsSuitor new v left moved → IsAimed v new moved pointed → IsRepointed p q v start pointed
+repointed v start left moved pointed old new p q was is out into aimed =
     subst (λ o. IsRepointed o q v start pointed) (sym was) (subst (λ o. IsRepointed old o v start pointed) is record {
-      places = into.places ∙ sym out.places;
-      suitors = λ k. let a = out.suitors k in let b = into.suitors k in omega arith;
-      sum = λ k. let a = out.sum k in let b = into.sum k in omega arith;
-      reached = λ k. into.reached k ∙ sym (out.reached k);
+      places = aimed.places ∙ into.places ∙ sym out.places;
+      suitors = λ k. let a = out.suitors k in let b = into.suitors k in let c = aimed.suitors k in omega arith;
+      sum = λ k. let a = out.sum k in let b = into.sum k in let c = aimed.sum k in omega arith;
+      reached = λ k. aimed.reached k ∙ into.reached k ∙ sym (out.reached k);
+      aim = aimed.aim;
+      others = λ k apart. aimed.others k apart ∙ into.aims k ∙ sym (out.aims k);
     })
 
 -- after the pointer's part: these nodes are next to learn whether v was open, and whether it is
@@ -103,12 +105,12 @@ pub record IsHalfTold (above : Bool) (opens : Option ℕ → Bool → Bool) (r :
   pub before : was ≡ opens (pointer_of r v) (flag_of r v)
   pub now : is ≡ is_open opens s v
 
-pub half_pointed : (above : Bool) (opens : Option ℕ → Bool → Bool) (start : List Tally) (now : StateView) (v : ℕ) (was is : Option ℕ) (told : WasIndexed above opens start (Pointed v was is) now) (left pointed : List Tally) (nodes : List ℕ) (raised was_open opened : Bool) → AddsSuitor was v left start → AddsSuitor is v left pointed → nodes ≡ neighbours now.state.network v → raised ≡ flag now.state v → was_open ≡ opens was raised → opened ≡ opens is raised → IsHalfTold above opens told.0.state.registers now.state v start pointed nodes was_open opened
-half_pointed above opens start now v was is told left pointed nodes raised was_open opened out into all flagged before after =
+pub half_pointed : (above : Bool) (opens : Option ℕ → Bool → Bool) (start : List Tally) (now : StateView) (v : ℕ) (was is : Option ℕ) (told : WasIndexed above opens start (Pointed v was is) now) (left moved pointed : List Tally) (nodes : List ℕ) (raised was_open opened : Bool) → AddsSuitor was v left start → AddsSuitor is v left moved → IsAimed v is moved pointed → nodes ≡ neighbours now.state.network v → raised ≡ flag now.state v → was_open ≡ opens was raised → opened ≡ opens is raised → IsHalfTold above opens told.0.state.registers now.state v start pointed nodes was_open opened
+half_pointed above opens start now v was is told left moved pointed nodes raised was_open opened out into aimed all flagged before after =
     let written = pointer_now told.0 now v was is told.1.0 in
     record {
       change = point_write above opens start now v was is told;
-      told = repointed v start left pointed was is (pointer told.0.state v) (pointer now.state v) (sym told.1.0.due.1) (sym written) out into;
+      told = repointed v start left moved pointed was is (pointer told.0.state v) (pointer now.state v) (sym told.1.0.due.1) (sym written) out into aimed;
       all = all;
       before = before ∙ ap₂ opens told.1.0.due.1 (flagged ∙ ap (λ (s : State). flag s v) told.1.0.made);
       now = after ∙ ap₂ opens (sym written) flagged;
@@ -119,7 +121,14 @@ half_flagged above opens start now v was is told nodes one two was_open opened a
     let same = ap (λ (s : State). pointer s v) told.1.0.made in
     record {
       change = flag_write above opens start now v was is told;
-      told = subst (λ o. IsRepointed (pointer told.0.state v) o v start start) (sym same) record { places = refl; suitors = λ k. refl; sum = λ k. refl; reached = λ k. refl };
+      told = subst (λ o. IsRepointed (pointer told.0.state v) o v start start) (sym same) record {
+        places = refl;
+        suitors = λ k. refl;
+        sum = λ k. refl;
+        reached = λ k. refl;
+        aim = ap (λ (t : Tally). t.pointer) (told.1.1.index.counted v told.1.0.due.0);
+        others = λ k apart. refl;
+      };
       all = all;
       before = before ∙ ap₂ opens (first ∙ same) told.1.0.due.1;
       now = after ∙ ap₂ opens second (sym (flag_now told.0 now v was is told.1.0));

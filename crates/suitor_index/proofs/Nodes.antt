@@ -1,5 +1,5 @@
 -- Presence changes none of the counts, except at a node that joins.
-use Rattle.suitor_index.proofs.Prelude.{◌&&◌, ◌≡◌, ◌≢◌, ℕ, ◌+◌, ◌≤◌, Bool, true, false, cond, List, [], ◌∷◌, filter, replicate, set, Option, IsTrue, refl, sym, ap, subst, ◌∙◌, ⊎_elim, arith, count_by, sum_by, range_with_len, cases_eq, false_from_ne_true, true≢false, get_or-replicate, get_or-set_same, get_or-set_other, length-replicate, length-set, Network, IsNetwork, edge, present, linked, neighbours, with_node, State, Registers, IsState, opening_with, suits, is_open, contains-empty, present_other, with_node_is_network, linked_present, neighbours_range, present_range, opening_is_state, Tally, state_of, asks_for, empty_tally, tally_of, tally_at, name_if, IsIndexOf, IsIndexed}
+use Rattle.suitor_index.proofs.Prelude.{◌&&◌, ◌≡◌, ◌≢◌, ℕ, ◌+◌, ◌%◌, ◌≤◌, Bool, true, false, cond, None, Some, IfSome, List, [], ◌∷◌, filter, replicate, set, Option, IsTrue, refl, sym, ap, subst, ◌∙◌, ⊎_elim, arith, count_by, sum_by, range_with_len, cases_eq, false_from_ne_true, true≢false, get_or-replicate, get_or-set_same, get_or-set_other, length-replicate, length-set, Network, IsNetwork, edge, present, linked, neighbours, with_node, State, Registers, IsState, pointer_of, opening_with, suits, is_open, contains-empty, present_other, with_node_is_network, linked_present, neighbours_range, present_range, opening_is_state, Tally, state_of, asks_for, empty_tally, reduced, tally_of, tally_at, name_if, IsIndexOf, IsIndexed}
 use Rattle.suitor_index.proofs.OpenTargets.{open_is}
 
 -- what a scan of these nodes counts
@@ -7,13 +7,14 @@ abbrev tally_over : Bool → (Option ℕ → Bool → Bool) → Network → Regi
 tally_over above opens net r v nodes = record {
   suitors = count_by (suits (state_of net r) v) nodes;
   reached = count_by (λ w. asks_for above v w && is_open opens (state_of net r) w) nodes;
-  sum = sum_by (name_if (suits (state_of net r) v)) nodes;
+  sum = sum_by (name_if (suits (state_of net r) v)) nodes % 65536;
+  pointer = pointer_of r v;
 }
 
 over_all : (above : Bool) (opens : Option ℕ → Bool → Bool) (net : Network) (r : Registers) (v : ℕ) → tally_at above opens (state_of net r) v ≡ tally_over above opens net r v (neighbours net v)
 over_all above opens net r v =
     let now = tally_at above opens (state_of net r) v in
-    λ i. record { suitors = now.suitors; reached = open_is above opens (state_of net r) v i; sum = now.sum }
+    λ i. record { suitors = now.suitors; reached = open_is above opens (state_of net r) v i; sum = now.sum; pointer = now.pointer }
 
 -- a network with another row of present nodes
 abbrev with_row : Network → List Bool → Network
@@ -30,10 +31,17 @@ none_pass : (p : ℕ → Bool) (xs : List ℕ) → ((x : ℕ) → p x ≡ false)
 none_pass p [] h = refl
 none_pass p (x ∷ xs) h = ap (λ b. cond b (x ∷ filter p xs) (filter p xs)) (h x) ∙ none_pass p xs h
 
--- all counts of a node without an edge are 0
-pub nothing_counted : (above : Bool) (opens : Option ℕ → Bool → Bool) (net : Network) (r : Registers) (v : ℕ) → ((w : ℕ) → linked net v w ≡ false) → tally_at above opens (state_of net r) v ≡ empty_tally
-nothing_counted above opens net r v apart =
-    over_all above opens net r v ∙ ap (tally_over above opens net r v) (none_pass (linked net v) (filter (present net) (range_with_len 1 net.size)) apart)
+-- all counts of a node without an edge are 0, and its pointer is null
+pub nothing_counted : (above : Bool) (opens : Option ℕ → Bool → Bool) (net : Network) (r : Registers) (v : ℕ) → ((w : ℕ) → linked net v w ≡ false) → pointer_of r v ≡ None → tally_at above opens (state_of net r) v ≡ empty_tally
+nothing_counted above opens net r v apart null =
+    over_all above opens net r v
+    ∙ ap (tally_over above opens net r v) (none_pass (linked net v) (filter (present net) (range_with_len 1 net.size)) apart)
+    ∙ ap (λ (p : Option ℕ). let t : Tally = record empty_tally { pointer = p } in t) null
+
+-- a pointer is null if it would need an edge that is not there
+null_pointer : (p : Option ℕ) (near : ℕ → Bool) → IfSome p (λ w. IsTrue (near w)) → ((w : ℕ) → near w ≡ false) → p ≡ None
+null_pointer None near h apart = refl
+null_pointer (Some w) near h apart = absurd (true≢false (sym h ∙ apart w))
 
 -- the place of a name that becomes present is cleared
 pub index_joined : (above : Bool) (opens : Option ℕ → Bool → Bool) (net : Network) (r : Registers) (v : ℕ) (tallies : List Tally) → IsState (state_of net r) → 1 ≤ v → v ≤ net.size → present net v ≡ false → IsIndexOf above opens (state_of net r) tallies → IsIndexOf above opens (state_of (with_node net v) r) (set tallies v empty_tally)
@@ -46,11 +54,10 @@ index_joined above opens net r v tallies good low high absent index =
       counted = λ k has.
           ⊎_elim
           (λ (here : k ≡ v).
-          ap (tally_of (set tallies v empty_tally)) here
-          ∙ get_or-set_same tallies v empty_tally empty_tally (omega arith)
-          ∙ sym (ap (tally_at above opens (state_of (with_node net v) r)) here ∙ nothing_counted above opens (with_node net v) r v apart))
+          ap reduced (ap (tally_of (set tallies v empty_tally)) here ∙ get_or-set_same tallies v empty_tally empty_tally (omega arith))
+          ∙ sym (ap (tally_at above opens (state_of (with_node net v) r)) here ∙ nothing_counted above opens (with_node net v) r v apart (null_pointer (pointer_of r v) (linked net v) (good.neighbourly v) apart)))
           (λ (other : k ≢ v).
-          get_or-set_other tallies v k empty_tally empty_tally other
+          ap reduced (get_or-set_other tallies v k empty_tally empty_tally other)
           ∙ index.counted k (sym (present_other net v true k other) ∙ has)
           ∙ tally_stays above opens net (set net.here v true) r k good.is_network is_network)
           (cases_eq k v);
@@ -74,8 +81,8 @@ indexed_at_first above opens size count s tallies few at all =
         places = length-replicate (size + 1) empty_tally;
         counted = λ v here.
             let within = present_range (opening_with size count).network v here in
-            get_or-replicate (size + 1) v empty_tally empty_tally (let high : v ≤ size = within.1 in omega arith)
-            ∙ sym (nothing_counted above opens (opening_with size count).network (opening_with size count).registers v (λ w. contains-empty (edge v w)));
+            ap reduced (get_or-replicate (size + 1) v empty_tally empty_tally (let high : v ≤ size = within.1 in omega arith))
+            ∙ sym (nothing_counted above opens (opening_with size count).network (opening_with size count).registers v (λ w. contains-empty (edge v w)) (get_or-replicate (size + 1) v None None (let high : v ≤ size = within.1 in omega arith)));
       };
       few = few;
     })

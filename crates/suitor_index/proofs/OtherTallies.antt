@@ -1,6 +1,6 @@
 -- What one node's registers change in the counts of the others.
-use Rattle.suitor_index.proofs.Prelude.{◌≡◌, ◌≢◌, ℕ, ◌+◌, ◌<◌, ◌≤◌, Bool, true, false, cond, ◌&&◌, List, Option, Some, nat_eq, IsTrue, refl, sym, ap, ap₂, ◌∙◌, subst, arith, sum_by, list_any, Network, IsNetwork, linked, neighbours, present, State, Registers, IsState, is_at, points, pointer_of, flag_of, is_open, asks_for, is_reached, linked_back, points_true, suitor_linked, is_at_from_some, Tally, state_of, tally_of, tally_at, IsIndexOf, one_if, AddsSuitor, IsRepointed, IsTurned, HasSuitor, HasTallyRoom, CanTurn}
-use Rattle.suitor_index.proofs.NeighbourSums.{near_turn, near_le, near_ones, near_names, listed_is_linked}
+use Rattle.suitor_index.proofs.Prelude.{◌≡◌, ◌≢◌, ℕ, ◌+◌, ◌%◌, ◌≤◌, Bool, true, false, cond, ◌&&◌, List, Option, Some, nat_eq, ⊎_elim, cases_eq, IsTrue, refl, sym, ap, ap₂, ◌∙◌, subst, arith, sum_by, list_any, Network, IsNetwork, linked, neighbours, present, State, Registers, IsState, is_at, points, pointer_of, flag_of, is_open, asks_for, is_reached, linked_back, points_true, suitor_linked, is_at_from_some, Tally, state_of, suits, name_if, reduced, tally_of, tally_at, IsIndexOf, one_if, AddsSuitor, IsRepointed, IsTurned, HasSuitor, HasTallyRoom, CanTurn}
+use Rattle.suitor_index.proofs.NeighbourSums.{near_turn, near_le, near_ones, listed_is_linked}
 use Rattle.suitor_index.proofs.OpenTargets.{open_is}
 
 -- two tables of registers that differ at v alone
@@ -33,10 +33,14 @@ open_term above opens net r v k is_network =
     swap_and (linked net k v) (asks_for above k v) (is_open opens (state_of net r) v)
     ∙ ap (λ b. cond (is_open opens (state_of net r) v) (one_if (b && asks_for above k v)) 0) (linked_back net k v ∙ sym (listed_is_linked net v k is_network))
 
+-- the sum of the names of k's suitors
+abbrev pub names_at : State → ℕ → ℕ
+names_at s k = sum_by (name_if (suits s k)) (neighbours s.network k)
+
 -- how the tallies at k in two states are equal except for v
 pub record IsTallyTurned (above : Bool) (opens : Option ℕ → Bool → Bool) (net : Network) (r q : Registers) (v k : ℕ) : Type 0 where
   pub suitors : (tally_at above opens (state_of net q) k).suitors + one_if (points r v k) ≡ (tally_at above opens (state_of net r) k).suitors + one_if (points q v k)
-  pub sum : (tally_at above opens (state_of net q) k).sum + cond (points r v k) v 0 ≡ (tally_at above opens (state_of net r) k).sum + cond (points q v k) v 0
+  pub sum : names_at (state_of net q) k + cond (points r v k) v 0 ≡ names_at (state_of net r) k + cond (points q v k) v 0
   pub reached : (tally_at above opens (state_of net q) k).reached + cond (is_open opens (state_of net r) v) (one_if (near above net v k)) 0 ≡ (tally_at above opens (state_of net r) k).reached + cond (is_open opens (state_of net q) v) (one_if (near above net v k)) 0
 
 pub tally_turned : (above : Bool) (opens : Option ℕ → Bool → Bool) (net : Network) (r q : Registers) (v k : ℕ) → IsState (state_of net r) → IsState (state_of net q) → AreAlike v r q → IsTrue (present net v) → IsTallyTurned above opens net r q v k
@@ -51,9 +55,12 @@ tally_turned above opens net r q v k before now alike here =
       reached = omega (arith, turn, open_is above opens s k, open_is above opens u k, open_term above opens net r v k before.is_network, open_term above opens net q v k before.is_network);
     }
 
--- tallies are equal if each count is
-pub tally_is : (t u : Tally) → t.suitors ≡ u.suitors → t.reached ≡ u.reached → t.sum ≡ u.sum → t ≡ u
-tally_is t u a b c = λ i. record { suitors = a i; reached = b i; sum = c i }
+-- tallies are equal if each count and the pointer is
+pub tally_is : (t u : Tally) → t.suitors ≡ u.suitors → t.reached ≡ u.reached → t.sum % 65536 ≡ u.sum → t.pointer ≡ u.pointer → reduced t ≡ u
+tally_is t u a b c d = λ i. record { suitors = a i; reached = b i; sum = c i; pointer = d i }
+
+cancel_sum : (a b c d w i : ℕ) → (a + w) % 65536 ≡ (b + i) % 65536 → b % 65536 ≡ c % 65536 → d + w ≡ c + i → a % 65536 ≡ d % 65536
+cancel_sum a b c d w i told was turned = omega arith
 
 cancel : (a b c d w i : ℕ) → a + w ≡ b + i → b ≡ c → d + w ≡ c + i → a ≡ d
 cancel a b c d w i told was turned = omega arith
@@ -68,57 +75,47 @@ index_turned above opens net r q v start pointed turned before now alike here in
       tally_is (tally_of turned k) (tally_at above opens (state_of net q) k)
       (told_open.suitors k ∙ cancel _ _ _ _ _ _ (told.suitors k) (ap (λ (x : Tally). x.suitors) was) t.suitors)
       (cancel _ _ _ _ _ _ (told_open.reached k) (told.reached k ∙ ap (λ (x : Tally). x.reached) was) t.reached)
-      (told_open.sum k ∙ cancel _ _ _ _ _ _ (told.sum k) (ap (λ (x : Tally). x.sum) was) t.sum);
+      (ap (λ n. n % 65536) (told_open.sum k) ∙ cancel_sum _ _ (names_at (state_of net r) k) (names_at (state_of net q) k) _ _ (told.sum k) (ap (λ (x : Tally). x.sum) was) t.sum)
+      (told_open.aims k
+      ∙ ⊎_elim
+      (λ (here : k ≡ v). ap (λ x. (tally_of pointed x).pointer) here ∙ told.aim ∙ sym (ap (pointer_of q) here))
+      (λ (apart : k ≢ v). told.others k apart ∙ ap (λ (x : Tally). x.pointer) was ∙ alike.pointers k apart)
+      (cases_eq k v));
 }
 
 -- a count is at most 65,535, and so is each of its parts
 one_small : (b : Bool) → cond b 1 0 ≤ 1
 one_small b = grind arith
 
-name_small : (b : Bool) (x : ℕ) → cond b x 0 ≤ x
-name_small b x = grind arith
-
 pub record IsSmall (t : Tally) : Type 0 where
   pub suitors : t.suitors ≤ 65535
   pub reached : t.reached ≤ 65535
-  pub sum : t.sum < 4294967296
 
 pub tally_small : (above : Bool) (opens : Option ℕ → Bool → Bool) (s : State) (k : ℕ) → s.network.size ≤ 65535 → IsSmall (tally_at above opens s k)
 tally_small above opens s k few = record {
   suitors = omega (arith, near_ones s.network k (λ x. cond (points s.registers x k) 1 0) (λ x. one_small (points s.registers x k)));
   reached = omega (arith, near_ones s.network k (λ x. cond (is_reached above opens s k x) 1 0) (λ x. one_small (is_reached above opens s k x)));
-  sum = omega (arith, near_names s.network k (λ x. cond (points s.registers x k) x 0) few (λ x. name_small (points s.registers x k) x));
 }
 
 -- a node's pointer is counted at its target
-pub has_suitor : (above : Bool) (opens : Option ℕ → Bool → Bool) (net : Network) (r : Registers) (v w : ℕ) (ts : List Tally) → IsState (state_of net r) → IsIndexOf above opens (state_of net r) ts → IsTrue (present net v) → IsTrue (present net w) → pointer_of r v ≡ Some w → HasSuitor v (tally_of ts w)
+pub has_suitor : (above : Bool) (opens : Option ℕ → Bool → Bool) (net : Network) (r : Registers) (v w : ℕ) (ts : List Tally) → IsState (state_of net r) → IsIndexOf above opens (state_of net r) ts → IsTrue (present net v) → IsTrue (present net w) → pointer_of r v ≡ Some w → HasSuitor (tally_of ts w)
 has_suitor above opens net r v w ts good index here has at =
     let was = index.counted w has in
     let aims = is_at_from_some (pointer_of r v) w at in
     let one = near_le net w v (λ x. cond (points r x w) 1 0) here in
-    let two = near_le net w v (λ x. cond (points r x w) x 0) here in
     let held_one = held_at net r v w 1 good ∙ ap (λ b. cond b 1 0) aims in
-    let held_two = held_at net r v w v good ∙ ap (λ b. cond b v 0) aims in
-    record {
-      suitors = omega (arith, one, held_one, ap (λ (x : Tally). x.suitors) was);
-      sum = omega (arith, two, held_two, ap (λ (x : Tally). x.sum) was);
-    }
+    omega (arith, one, held_one, ap (λ (x : Tally). x.suitors) was)
 
 -- there is room to count it at its new target
-pub has_room : (above : Bool) (opens : Option ℕ → Bool → Bool) (net : Network) (r q : Registers) (v w : ℕ) (start left : List Tally) → IsState (state_of net r) → IsState (state_of net q) → AreAlike v r q → IsTrue (present net v) → IsTrue (present net w) → net.size ≤ 65535 → IsIndexOf above opens (state_of net r) start → AddsSuitor (pointer_of r v) v left start → pointer_of q v ≡ Some w → HasTallyRoom v (tally_of left w)
+pub has_room : (above : Bool) (opens : Option ℕ → Bool → Bool) (net : Network) (r q : Registers) (v w : ℕ) (start left : List Tally) → IsState (state_of net r) → IsState (state_of net q) → AreAlike v r q → IsTrue (present net v) → IsTrue (present net w) → net.size ≤ 65535 → IsIndexOf above opens (state_of net r) start → AddsSuitor (pointer_of r v) v left start → pointer_of q v ≡ Some w → HasTallyRoom (tally_of left w)
 has_room above opens net r q v w start left before now alike here has few index told at =
     let t = tally_turned above opens net r q v w before now alike here in
     let was = index.counted w has in
     let small = tally_small above opens (state_of net q) w few in
     let aims = is_at_from_some (pointer_of q v) w at in
     let one : one_if (points q v w) ≡ 1 = ap one_if aims in
-    let two : cond (points q v w) v 0 ≡ v = ap (λ b. cond b v 0) aims in
     let low = small.suitors in
-    let low_sum = small.sum in
-    record {
-      suitors = omega (arith, t.suitors, told.suitors w, ap (λ (x : Tally). x.suitors) was, one, low);
-      sum = omega (arith, t.sum, told.sum w, ap (λ (x : Tally). x.sum) was, two, low_sum);
-    }
+    omega (arith, t.suitors, told.suitors w, ap (λ (x : Tally). x.suitors) was, one, low)
 
 turn_step : (was is : Bool) (t before now : Tally) → IsSmall now → t.reached ≡ before.reached → now.reached + cond was 1 0 ≡ before.reached + cond is 1 0 → CanTurn was is t
 turn_step true true t before now small same turned = tt

@@ -1,5 +1,5 @@
 -- What the proofs of this crate import from the crates below and from its own definitions.
-pub use Rattle.std.proofs.Common.{refl, subst, sym, ◌≡◌, ◌≢◌, ℕ, zero, suc, ◌+◌, ◌≤◌, Bool, true, false, cond, not, ◌&&◌, reverse, find, Option, Some, None, SomeIff, is_some, nat_eq, nat_lt, nat_le, IsTrue, MatchOption, ap, ap₂, ◌∙◌, ⊎_elim, arith, ◌<◌, List, ◌||◌, length, get_or, take, ◌*◌, filter, ◌-◌, ◌++◌, IfSome, [], ◌∷◌, replicate, set, drop}
+pub use Rattle.std.proofs.Common.{refl, subst, sym, ◌≡◌, ◌≢◌, ℕ, zero, suc, ◌+◌, ◌≤◌, Bool, true, false, cond, not, ◌&&◌, reverse, find, Option, Some, None, SomeIff, is_some, nat_eq, nat_lt, nat_le, IsTrue, MatchOption, ap, ap₂, ◌∙◌, ⊎_elim, arith, ◌<◌, ◌%◌, List, ◌||◌, length, get_or, take, ◌*◌, filter, ◌-◌, ◌++◌, IfSome, [], ◌∷◌, replicate, set, drop}
 pub use Rattle.std.proofs.Math.Seq.{take-append_seam}
 pub use Rattle.std.proofs.lemmas.Bool.{and_parts, cases_eq, eq-eqb, false_from_ne_true, le-leb, lt-leb, lt-ltb, ne_eqb, true≢false, or_left, and_right, le-ltb, ltb-false, ltb-true, or_cases, eqb-true}
 pub use Rattle.std.proofs.lemmas.Cmp.{eq_by_cmp_equiv}
@@ -33,6 +33,6 @@ pub use Rattle.rule_machine.specs.RuleTable.{is_open}
 pub use Rattle.rule_machine.specs.State.{State, IsState, suits, has_suitor, first_suitor, Registers, points, pointer_of, flag_of, with_pointer, with_flag, opening_with, is_at, pointer, flag}
 pub use Rattle.rules_api.specs.LocalViews.{is_reached, asks_for}
 pub use Rattle.suitor_index.specs.PriorIndexes.{WasIndexed}
-pub use Rattle.suitor_index.specs.Tallies.{IsIndexed, suitor_count, tally_at, name_if, IsLoneSuitor, tally_of, IsIndexOf, empty_tally}
-pub use Rattle.suitor_index.specs.TallyChanges.{one_if, IsOpenTo, CanTurn, IsTurned, AddsSuitor, IsRepointed, HasSuitor, HasTallyRoom}
+pub use Rattle.suitor_index.specs.Tallies.{IsIndexed, suitor_count, tally_at, name_if, IsLoneSuitor, tally_of, IsIndexOf, empty_tally, reduced}
+pub use Rattle.suitor_index.specs.TallyChanges.{one_if, IsOpenTo, CanTurn, IsTurned, AddsSuitor, IsAimed, IsRepointed, HasSuitor, HasTallyRoom}
 pub use Rattle.suitor_index.specs.declared.tally.Tally.{Tally}

@@ -1,6 +1,6 @@
 -- How two tables of tallies differ by one node: by the node's target, and by the entries that count the
 -- node as open.
-use Rattle.std.specs.Prelude.{◌≡◌, ℕ, ◌+◌, ◌<◌, ◌≤◌, Bool, true, false, cond, List, length, Option}
+use Rattle.std.specs.Prelude.{◌≡◌, ◌≢◌, ℕ, ◌+◌, ◌%◌, ◌<◌, ◌≤◌, Bool, true, false, cond, List, length, Option}
 use Rattle.rule_machine.specs.State.{is_at}
 use Rattle.suitor_index.specs.declared.tally.Tally.{Tally}
 use Rattle.suitor_index.specs.Tallies.{tally_of}
@@ -13,8 +13,9 @@ one_if b = cond b 1 0
 pub record AddsSuitor (pointer : Option ℕ) (v : ℕ) (without has : List Tally) : Type 0 where
   pub places : length has ≡ length without
   pub suitors : (k : ℕ) → (tally_of has k).suitors ≡ (tally_of without k).suitors + one_if (is_at pointer k)
-  pub sum : (k : ℕ) → (tally_of has k).sum ≡ (tally_of without k).sum + cond (is_at pointer k) v 0
+  pub sum : (k : ℕ) → (tally_of has k).sum % 65536 ≡ ((tally_of without k).sum + cond (is_at pointer k) v 0) % 65536
   pub reached : (k : ℕ) → (tally_of has k).reached ≡ (tally_of without k).reached
+  pub aims : (k : ℕ) → (tally_of has k).pointer ≡ (tally_of without k).pointer
 
 -- at each place that passes the test, the second table counts one open node more than the first
 pub record IsOpenTo (near : ℕ → Bool) (without has : List Tally) : Type 0 where
@@ -22,15 +23,14 @@ pub record IsOpenTo (near : ℕ → Bool) (without has : List Tally) : Type 0 wh
   pub suitors : (k : ℕ) → (tally_of has k).suitors ≡ (tally_of without k).suitors
   pub sum : (k : ℕ) → (tally_of has k).sum ≡ (tally_of without k).sum
   pub reached : (k : ℕ) → (tally_of has k).reached ≡ (tally_of without k).reached + one_if (near k)
+  pub aims : (k : ℕ) → (tally_of has k).pointer ≡ (tally_of without k).pointer
 
--- the counts may include v as a suitor
-pub record HasSuitor (v : ℕ) (t : Tally) : Type 0 where
-  pub suitors : 1 ≤ t.suitors
-  pub sum : v ≤ t.sum
+-- the counts may include a suitor
+abbrev pub HasSuitor : Tally → Type 0
+HasSuitor t = 1 ≤ t.suitors
 
-pub record HasTallyRoom (v : ℕ) (t : Tally) : Type 0 where
-  pub suitors : t.suitors < 65535
-  pub sum : t.sum + v < 4294967296
+abbrev pub HasTallyRoom : Tally → Type 0
+HasTallyRoom t = t.suitors < 65535
 
 -- the count can follow a node's change: at least 1 if an open node closes, below 65,535 if a node opens
 abbrev pub CanTurn : Bool → Bool → Tally → Type 0
@@ -46,10 +46,22 @@ pub record IsTurned (near : ℕ → Bool) (was is : Bool) (before after : List T
   pub suitors : (k : ℕ) → (tally_of after k).suitors ≡ (tally_of before k).suitors
   pub sum : (k : ℕ) → (tally_of after k).sum ≡ (tally_of before k).sum
   pub reached : (k : ℕ) → (tally_of after k).reached + cond was (one_if (near k)) 0 ≡ (tally_of before k).reached + cond is (one_if (near k)) 0
+  pub aims : (k : ℕ) → (tally_of after k).pointer ≡ (tally_of before k).pointer
+
+-- the second table has v's new pointer
+pub record IsAimed (v : ℕ) (target : Option ℕ) (before after : List Tally) : Type 0 where
+  pub places : length after ≡ length before
+  pub suitors : (k : ℕ) → (tally_of after k).suitors ≡ (tally_of before k).suitors
+  pub sum : (k : ℕ) → (tally_of after k).sum ≡ (tally_of before k).sum
+  pub reached : (k : ℕ) → (tally_of after k).reached ≡ (tally_of before k).reached
+  pub aim : (tally_of after v).pointer ≡ target
+  pub others : (k : ℕ) → k ≢ v → (tally_of after k).pointer ≡ (tally_of before k).pointer
 
 -- the first table counts v as a suitor of v's old target, the second as a suitor of v's new target
 pub record IsRepointed (was is : Option ℕ) (v : ℕ) (before after : List Tally) : Type 0 where
   pub places : length after ≡ length before
   pub suitors : (k : ℕ) → (tally_of after k).suitors + one_if (is_at was k) ≡ (tally_of before k).suitors + one_if (is_at is k)
-  pub sum : (k : ℕ) → (tally_of after k).sum + cond (is_at was k) v 0 ≡ (tally_of before k).sum + cond (is_at is k) v 0
+  pub sum : (k : ℕ) → ((tally_of after k).sum + cond (is_at was k) v 0) % 65536 ≡ ((tally_of before k).sum + cond (is_at is k) v 0) % 65536
   pub reached : (k : ℕ) → (tally_of after k).reached ≡ (tally_of before k).reached
+  pub aim : (tally_of after v).pointer ≡ is
+  pub others : (k : ℕ) → k ≢ v → (tally_of after k).pointer ≡ (tally_of before k).pointer

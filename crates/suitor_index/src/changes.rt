@@ -10,12 +10,11 @@ ghost use Rattle.suitor_index.specs.Tallies.{tally_of, IsIndexed};
 ghost use Rattle.suitor_index.specs.TallyChanges.{IsOpenTo};
 
 use crate::Suitors;
-use crate::scan::is_reached;
-use crate::table::{close_at, court, leave, open_at, turn};
-use crate::tally::{NOTHING, Tally};
+use crate::table::{aim, close_at, court, leave, open_at, turn};
+use crate::tally::{Tally, lone_tally};
 use net_state::{Change, NetState, Observer};
 use rule_machine::Node;
-use rules_api::Rules;
+use rules_api::{Rules, asks_for};
 
 impl<R: Rules> Observer for Suitors<R> {
     ghost fits = { λ net it. IsIndexed R.COURTS_HIGHER_ONLY R.table.opens net.state it.tallies.items };
@@ -58,11 +57,13 @@ fn pointed<R: Rules>(
     // Copied: the prover drops facts about a moved value.
     let left = was;
     let courted = is;
+    let target = is;
     let flag = net.flag(v);
     let was_open = R::opens(was, flag);
     let is_open = R::opens(is, flag);
     leave(tallies, left, v);
     court(tallies, courted, v);
+    aim(tallies, v, target);
     turn::<R>(tallies, net.neighbours(v), v, was_open, is_open);
 }
 
@@ -109,17 +110,19 @@ fn joined<R: Rules>(tallies: &mut [Tally], net: &NetState, v: Node)
     requires within { v ≤ net.now.state.network.size }
     ensures { IsIndexed R.COURTS_HIGHER_ONLY R.table.opens net.now.state tallies.new }
 {
-    tallies[v.place()] = NOTHING;
+    tallies[v.place()] = lone_tally(None);
 }
 
 /// Adds 1 to the count of `w` if `v` is open and the guard of `w` asks for `v`.
 fn count_end<R: Rules>(tallies: &mut [Tally], w: Node, v: Node, net: &NetState)
     requires known { v ≤ net.now.state.network.size }
     requires within { w < length tallies.old }
+    requires places { length tallies.old ≡ net.now.state.network.size + 1 }
+    requires aimed { (tally_of tallies.old v).pointer ≡ pointer net.now.state v }
     requires room { (asks_for R.COURTS_HIGHER_ONLY w v && R.table.opens (pointer net.now.state v) (flag net.now.state v)) ≡ true → (tally_of tallies.old w).reached < 65535 }
     ensures { IsOpenTo (λ k. (asks_for R.COURTS_HIGHER_ONLY w v && R.table.opens (pointer net.now.state v) (flag net.now.state v)) && nat_eq k w) tallies.old tallies.new }
 {
-    if is_reached::<R>(net, w, v) {
+    if asks_for::<R>(w, v) && R::opens(tallies[v.place()].pointer.target(), net.flag(v)) {
         open_at(tallies, w);
     }
 }
@@ -128,10 +131,12 @@ fn count_end<R: Rules>(tallies: &mut [Tally], w: Node, v: Node, net: &NetState)
 fn discount_end<R: Rules>(tallies: &mut [Tally], w: Node, v: Node, net: &NetState)
     requires known { v ≤ net.now.state.network.size }
     requires within { w < length tallies.old }
+    requires places { length tallies.old ≡ net.now.state.network.size + 1 }
+    requires aimed { (tally_of tallies.old v).pointer ≡ pointer net.now.state v }
     requires counted { (asks_for R.COURTS_HIGHER_ONLY w v && R.table.opens (pointer net.now.state v) (flag net.now.state v)) ≡ true → 1 ≤ (tally_of tallies.old w).reached }
     ensures { IsOpenTo (λ k. (asks_for R.COURTS_HIGHER_ONLY w v && R.table.opens (pointer net.now.state v) (flag net.now.state v)) && nat_eq k w) tallies.new tallies.old }
 {
-    if is_reached::<R>(net, w, v) {
+    if asks_for::<R>(w, v) && R::opens(tallies[v.place()].pointer.target(), net.flag(v)) {
         close_at(tallies, w);
     }
 }

@@ -1,14 +1,14 @@
 //! Look-ups in a network with its counts.
 
-ghost use Rattle.std.specs.Prelude.{◌≡◌, ◌≢◌, ◌≤◌, ◌&&◌, IsTrue, MatchOption, is_some, not};
+ghost use Rattle.std.specs.Prelude.{◌≡◌, ◌≢◌, ◌≤◌, ◌&&◌, IsTrue, MatchOption, is_none, is_some, not};
 ghost use Rattle.rule_machine.specs.Network.{present, linked};
-ghost use Rattle.rule_machine.specs.State.{IsState, suits, has_suitor, first_suitor};
+ghost use Rattle.rule_machine.specs.State.{IsState, points, pointer, suits, has_suitor, first_suitor};
 ghost use Rattle.rule_machine.specs.RuleTable as RuleTable;
 ghost use Rattle.rule_machine.specs.RuleTable.{is_open, first_open, last_open_above};
 ghost use Rattle.rules_api.specs.LocalViews.{reaches_beside};
-ghost use Rattle.suitor_index.specs.Tallies.{suitor_count, tally_at, IsLoneSuitor};
+ghost use Rattle.suitor_index.specs.Tallies.{reduced, suitor_count, tally_at, IsLoneSuitor};
 
-use crate::tally::Tally;
+use crate::tally::{Tally, node_named};
 use crate::{NodeView, Suitors, scan};
 use graph_store::EdgeStore;
 use net_state::{NetState, Observer};
@@ -101,19 +101,45 @@ impl<'a, R: Rules> IndexedNet<'a, R> {
         requires { IsTrue (present self.now.state.network v) }
         ensures { result ≡ is_open R.table.opens self.now.state v }
     {
-        let net = self.net();
-        R::opens(net.pointer(v), net.flag(v))
+        R::opens(self.pointer(v), self.net().flag(v))
     }
 
     #[inline(always)]
     fn tally(&self, v: Node) -> Tally
         requires { IsTrue (present self.now.state.network v) }
-        ensures value { result ≡ tally_at R.COURTS_HIGHER_ONLY R.table.opens self.now.state v }
+        ensures value { reduced result ≡ tally_at R.COURTS_HIGHER_ONLY R.table.opens self.now.state v }
         ensures sound { IsState self.now.state }
         ensures few { self.now.state.network.size ≤ 65535 }
     {
         let suitors = self.suitors;
         suitors.tallies[v.place()]
+    }
+
+    /// A node's pointer. One look, beside the counts.
+    #[inline(always)]
+    pub fn pointer(&self, v: Node) -> Option<Node>
+        requires { IsTrue (present self.now.state.network v) }
+        ensures { result ≡ pointer self.now.state v }
+    {
+        self.tally(v).pointer.target()
+    }
+
+    /// Whether a node's pointer is null. One look, beside the counts.
+    #[inline(always)]
+    pub fn has_null(&self, v: Node) -> bool
+        requires { IsTrue (present self.now.state.network v) }
+        ensures { result ≡ is_none (pointer self.now.state v) }
+    {
+        self.tally(v).pointer.is_null()
+    }
+
+    /// Whether node `v` points at `w`. One look, beside the counts.
+    #[inline(always)]
+    pub fn points(&self, v: Node, w: Node) -> bool
+        requires { IsTrue (present self.now.state.network v) }
+        ensures { result ≡ points self.now.state.registers v w }
+    {
+        self.tally(v).pointer.is_at(w)
     }
 
     /// Whether a neighbour points at node `v`. One look.
@@ -154,16 +180,18 @@ impl<'a, R: Rules> IndexedNet<'a, R> {
         }
     }
 
-    /// Whether, of the neighbours that the guard of `w` asks for, none but `v` is open. One look.
+    /// Whether `w` points nowhere and, of the neighbours that its guard asks for, none but `v` is open.
+    /// One look.
     ///
     /// `v` is a neighbour of `w`. `is_open` is whether `v` is open.
-    pub fn is_only_open_neighbour(&self, w: Node, v: Node, is_open: bool) -> bool
+    pub fn is_turned_by(&self, w: Node, v: Node, is_open: bool) -> bool
         requires present { IsTrue (present self.now.state.network w) }
         requires linked { IsTrue (linked self.now.state.network w v) }
         requires open { is_open ≡ RuleTable.is_open R.table.opens self.now.state v }
-        ensures { result ≡ not (reaches_beside R.COURTS_HIGHER_ONLY R.table.opens self.now.state w v) }
+        ensures { result ≡ (is_none (pointer self.now.state w) && not (reaches_beside R.COURTS_HIGHER_ONLY R.table.opens self.now.state w v)) }
     {
-        self.tally(w).has_none_but(asks_for::<R>(w, v) && is_open)
+        self.tally(w)
+            .is_null_with_none_but(asks_for::<R>(w, v) && is_open)
     }
 
     /// The first neighbour that points at the node, if any.
@@ -177,8 +205,8 @@ impl<'a, R: Rules> IndexedNet<'a, R> {
         let tally = self.tally(v);
         match tally.suitors {
             0 => None,
-            1 => Node::new(tally.sum),
-            _ => scan::first_pointing_at(self.net().neighbours(v), self.net(), v),
+            1 => node_named(tally.sum),
+            _ => scan::first_pointing_at(self.net().neighbours(v), self, v),
         }
     }
 
@@ -189,7 +217,7 @@ impl<'a, R: Rules> IndexedNet<'a, R> {
     {
         let tally = self.tally(v);
         if tally.suitors == 1 {
-            Node::new(tally.sum)
+            node_named(tally.sum)
         } else {
             None
         }
@@ -206,7 +234,7 @@ impl<'a, R: Rules> IndexedNet<'a, R> {
         if !R::COURTS_HIGHER_ONLY && self.tally(v).reached == 0 {
             return None;
         }
-        scan::first_open::<R>(self.net().neighbours(v), self.net())
+        scan::first_open::<R>(self.net().neighbours(v), self)
     }
 
     /// The greatest open neighbour above the node, if any.
@@ -220,7 +248,7 @@ impl<'a, R: Rules> IndexedNet<'a, R> {
         if R::COURTS_HIGHER_ONLY && self.tally(v).reached == 0 {
             return None;
         }
-        scan::last_open_above::<R>(self.net().neighbours(v), self.net(), v)
+        scan::last_open_above::<R>(self.net().neighbours(v), self, v)
     }
 
     /// Whether `w` is a neighbour of `v` that points at `v`. One look.
@@ -236,6 +264,6 @@ impl<'a, R: Rules> IndexedNet<'a, R> {
         requires { IsTrue (present self.now.state.network v) }
         ensures { result ≡ (linked self.now.state.network v w && is_open R.table.opens self.now.state w) }
     {
-        self.net().linked(v, w) && scan::is_open::<R>(self.net(), w)
+        self.net().linked(v, w) && self.is_open_at(w)
     }
 }

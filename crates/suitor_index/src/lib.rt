@@ -1,9 +1,10 @@
 //! Counts of suitors and open neighbours, so that a look-up with no result scans nothing.
 //!
 //! Besides a network (`net_state`) `Suitors` stores three numbers for each node: how many suitors the node has
-//! (neighbours that point at the node), the sum of the suitors' names, and how many open neighbours the node's
-//! guard asks for. `Suitors` is an `Observer`: each change of the network updates the numbers. `IndexedNet`
-//! borrows both for look-ups. Contracts see the network alone.
+//! (neighbours that point at the node), the sum of the suitors' names modulo 65,536, and how many open
+//! neighbours the node's guard asks for. A copy of the node's pointer lies beside them, so that one look reads
+//! all four. `Suitors` is an `Observer`: each change of the network updates the numbers. `IndexedNet` borrows
+//! both for look-ups. Contracts see the network alone.
 //!
 //! To find whether a node has a suitor or an open neighbour takes one look; to find which, a scan up to the
 //! first. A register write that opens or closes its node costs a write at each neighbour whose guard asks

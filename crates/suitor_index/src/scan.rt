@@ -5,11 +5,17 @@ ghost use Rattle.rules_api.specs.LocalViews.{asks_for};
 ghost use Rattle.rule_machine.specs.Network.{present};
 ghost use Rattle.rule_machine.specs.State.{points, pointer, flag};
 
+use crate::IndexedNet;
 use net_state::NetState;
 use rule_machine::Node;
 use rules_api::{Rules, asks_for};
 
-pub(crate) fn first_pointing_at(nodes: &[Node], net: &NetState, v: Node) -> Option<Node>
+pub(crate) fn first_pointing_at<R: Rules>(
+    nodes: &[Node],
+    net: &IndexedNet<'_, R>,
+    v: Node,
+) -> Option<Node>
+    requires present { All (λ w. IsTrue (present net.now.state.network w)) nodes.now }
     ensures { result ≡ find (λ w. points net.now.state.registers w v) nodes.now }
 {
     for &w in nodes {
@@ -20,27 +26,20 @@ pub(crate) fn first_pointing_at(nodes: &[Node], net: &NetState, v: Node) -> Opti
     None
 }
 
-pub(crate) fn is_open<R: Rules>(net: &NetState, w: Node) -> bool
-    requires known { w ≤ net.now.state.network.size }
-    ensures { result ≡ R.table.opens (pointer net.now.state w) (flag net.now.state w) }
-{
-    R::opens(net.pointer(w), net.flag(w))
-}
-
 /// Whether `w` is open and the guard of `v` asks for `w`.
 pub(crate) fn is_reached<R: Rules>(net: &NetState, v: Node, w: Node) -> bool
     requires known { w ≤ net.now.state.network.size }
     ensures { result ≡ (asks_for R.COURTS_HIGHER_ONLY v w && R.table.opens (pointer net.now.state w) (flag net.now.state w)) }
 {
-    asks_for::<R>(v, w) && is_open::<R>(net, w)
+    asks_for::<R>(v, w) && R::opens(net.pointer(w), net.flag(w))
 }
 
-pub(crate) fn first_open<R: Rules>(nodes: &[Node], net: &NetState) -> Option<Node>
+pub(crate) fn first_open<R: Rules>(nodes: &[Node], net: &IndexedNet<'_, R>) -> Option<Node>
     requires present { All (λ w. IsTrue (present net.now.state.network w)) nodes.now }
     ensures { result ≡ find (λ w. R.table.opens (pointer net.now.state w) (flag net.now.state w)) nodes.now }
 {
     for &w in nodes {
-        if is_open::<R>(net, w) {
+        if net.is_open_at(w) {
             return Some(w);
         }
     }
@@ -48,13 +47,17 @@ pub(crate) fn first_open<R: Rules>(nodes: &[Node], net: &NetState) -> Option<Nod
 }
 
 /// The last of these nodes that is open and above `v`.
-pub(crate) fn last_open_above<R: Rules>(nodes: &[Node], net: &NetState, v: Node) -> Option<Node>
+pub(crate) fn last_open_above<R: Rules>(
+    nodes: &[Node],
+    net: &IndexedNet<'_, R>,
+    v: Node,
+) -> Option<Node>
     requires present { All (λ w. IsTrue (present net.now.state.network w)) nodes.now }
     ensures { result ≡ find (λ w. R.table.opens (pointer net.now.state w) (flag net.now.state w) && nat_lt v w) (reverse nodes.now) }
 {
     for place in (0..nodes.len()).rev() {
         let w = nodes[place];
-        if w > v && is_open::<R>(net, w) {
+        if w > v && net.is_open_at(w) {
             return Some(w);
         }
     }

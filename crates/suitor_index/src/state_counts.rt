@@ -1,15 +1,15 @@
 //! The counts of a given state.
 
-ghost use Rattle.std.specs.Prelude.{◌≡◌, ◌+◌, ◌<◌, ◌≤◌, ◌&&◌, IfOk, IsTrue, cond};
+ghost use Rattle.std.specs.Prelude.{◌≡◌, ◌+◌, ◌%◌, ◌<◌, ◌≤◌, ◌&&◌, IfOk, IsTrue, cond};
 ghost use Rattle.rule_machine.specs.Network.{present};
 ghost use Rattle.rule_machine.specs.State.{flag, pointer, points};
 ghost use Rattle.rules_api.specs.LocalViews.{asks_for};
-ghost use Rattle.suitor_index.specs.Tallies.{tally_at};
+ghost use Rattle.suitor_index.specs.Tallies.{reduced, tally_at};
 ghost use Rattle.suitor_index.specs.TallyChanges.{HasTallyRoom, one_if};
 
 use crate::Suitors;
 use crate::scan::is_reached;
-use crate::tally::{NOTHING, Tally};
+use crate::tally::{Tally, lone_tally};
 use net_state::{NetState, Observer};
 use rule_machine::{Node, Want};
 use rules_api::Rules;
@@ -18,15 +18,16 @@ use std::alloc::Global;
 /// Counts one neighbour `w` of `v`.
 fn count_neighbour<R: Rules>(tally: &mut Tally, net: &NetState, v: Node, w: Node)
     requires known { w ≤ net.now.state.network.size }
-    requires room { HasTallyRoom w tally.old }
+    requires room { HasTallyRoom tally.old }
     requires few { tally.old.reached < 65535 }
     ensures suitors { tally.new.suitors ≡ tally.old.suitors + one_if (points net.now.state.registers w v) }
-    ensures sum { tally.new.sum ≡ tally.old.sum + cond (points net.now.state.registers w v) w 0 }
+    ensures sum { tally.new.sum % 65536 ≡ (tally.old.sum + cond (points net.now.state.registers w v) w 0) % 65536 }
+    ensures pointer { tally.new.pointer ≡ tally.old.pointer }
     ensures reached { tally.new.reached ≡ tally.old.reached + one_if (asks_for R.COURTS_HIGHER_ONLY v w && R.table.opens (pointer net.now.state w) (flag net.now.state w)) }
 {
     if net.points(w, v) {
         tally.suitors += 1;
-        tally.sum += w.name();
+        tally.sum = tally.sum.wrapping_add(w.name() as u16);
     }
     if is_reached::<R>(net, v, w) {
         tally.reached += 1;
@@ -36,11 +37,11 @@ fn count_neighbour<R: Rules>(tally: &mut Tally, net: &NetState, v: Node, w: Node
 /// The tally of a node, counted among the node's neighbours.
 fn count_at<R: Rules>(net: &NetState, v: Node) -> Tally
     requires { IsTrue (present net.now.state.network v) }
-    ensures { result ≡ tally_at R.COURTS_HIGHER_ONLY R.table.opens net.now.state v }
+    ensures { reduced result ≡ tally_at R.COURTS_HIGHER_ONLY R.table.opens net.now.state v }
 {
     // Gives the prover the greatest number of names.
     let _ = net.capacity();
-    let mut tally = NOTHING;
+    let mut tally = lone_tally(net.pointer(v));
     for &w in net.neighbours(v) {
         count_neighbour::<R>(&mut tally, net, v, w);
     }

@@ -4,7 +4,7 @@ ghost use Rattle.std.specs.Prelude.{◌≡◌, ◌≤◌, ℕ, IfOk};
 ghost use Rattle.net_state.specs.StateViews.{StateView};
 ghost use Rattle.rule_machine.specs.State.{opening_with};
 
-use crate::tally::{NOTHING, Tally};
+use crate::tally::{Tally, lone_tally};
 use net_state::Observer;
 use rule_machine::Want;
 use rules_api::Rules;
@@ -24,7 +24,7 @@ impl<R: Rules> Suitors<R> {
         requires { nodes ≤ 65535 }
         ensures { IfOk result (λ it. (net : StateView) (count : ℕ) → net.state ≡ opening_with nodes count → ⟦<Suitors<R> as Observer>⟧.fits net it) }
     {
-        let tallies = vec![in alloc; NOTHING; nodes as usize + 1]?;
+        let tallies = vec![in alloc; lone_tally(None); nodes as usize + 1]?;
         Ok(Suitors {
             tallies,
             rules: PhantomData,

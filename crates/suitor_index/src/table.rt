@@ -5,34 +5,43 @@ ghost use Rattle.std.specs.List.{list_any};
 ghost use Rattle.std.specs.List.Sorted.{IsStrictlyIncreasing};
 ghost use Rattle.rules_api.specs.LocalViews.{asks_for};
 ghost use Rattle.suitor_index.specs.Tallies.{tally_of};
-ghost use Rattle.suitor_index.specs.TallyChanges.{AddsSuitor, IsOpenTo, HasSuitor, HasTallyRoom, CanTurn, IsTurned};
+ghost use Rattle.suitor_index.specs.TallyChanges.{AddsSuitor, IsAimed, IsOpenTo, HasSuitor, HasTallyRoom, CanTurn, IsTurned};
 
 use crate::tally::Tally;
+use registers::Pointer;
 use rule_machine::Node;
 use rules_api::{Rules, asks_for};
 
 /// Removes `v` from the suitors of `pointer`, its old target.
 pub(crate) fn leave(tallies: &mut [Tally], pointer: Option<Node>, v: Node)
     requires within { IfSome pointer (λ w. w < length tallies.old) }
-    requires counted { IfSome pointer (λ w. HasSuitor v (tally_of tallies.old w)) }
+    requires counted { IfSome pointer (λ w. HasSuitor (tally_of tallies.old w)) }
     ensures { AddsSuitor pointer v tallies.new tallies.old }
 {
     if let Some(w) = pointer {
         tallies[w.place()].suitors -= 1;
-        tallies[w.place()].sum -= v.name();
+        tallies[w.place()].sum = tallies[w.place()].sum.wrapping_sub(v.name() as u16);
     }
 }
 
 /// Adds `v` to the suitors of `pointer`, its new target.
 pub(crate) fn court(tallies: &mut [Tally], pointer: Option<Node>, v: Node)
     requires within { IfSome pointer (λ w. w < length tallies.old) }
-    requires room { IfSome pointer (λ w. HasTallyRoom v (tally_of tallies.old w)) }
+    requires room { IfSome pointer (λ w. HasTallyRoom (tally_of tallies.old w)) }
     ensures { AddsSuitor pointer v tallies.old tallies.new }
 {
     if let Some(w) = pointer {
         tallies[w.place()].suitors += 1;
-        tallies[w.place()].sum += v.name();
+        tallies[w.place()].sum = tallies[w.place()].sum.wrapping_add(v.name() as u16);
     }
+}
+
+/// Copies a new pointer of `v`.
+pub(crate) fn aim(tallies: &mut [Tally], v: Node, target: Option<Node>)
+    requires within { v < length tallies.old }
+    ensures { IsAimed v target tallies.old tallies.new }
+{
+    tallies[v.place()].pointer = Pointer::new(target);
 }
 
 pub(crate) fn open_at(tallies: &mut [Tally], w: Node)

@@ -35,7 +35,7 @@ impl<R: Rules> Local for NodeView<'_, R> {
     ghost opens = { R.table.opens };
 
     fn pointer(&self, v: Node) -> Option<Node> {
-        self.state.net().pointer(v)
+        self.state.pointer(v)
     }
 
     fn flag(&self, v: Node) -> bool {

@@ -12,10 +12,10 @@ court-requires-clause-room g c = new_fits _ _ _ _ _ _ _ c.requires.told _ c.leav
 
 pub turn-requires : goal.turn-requires
 turn-requires g c =
-    let half = half_pointed _ _ _ _ _ _ _ c.requires.told _ _ _ _ _ _ c.leave.ensures c.court.ensures c.neighbours.ensures.all c.flag-flag.ensures c.opens-was_open.ensures c.opens-is_open.ensures in
+    let half = half_pointed _ _ _ _ _ _ _ c.requires.told _ _ _ _ _ _ _ c.leave.ensures c.court.ensures c.aim.ensures c.neighbours.ensures.all c.flag-flag.ensures c.opens-was_open.ensures c.opens-is_open.ensures in
     record { rising = told_rise _ _ _ _ _ _ _ _ _ _ half; within = told_within _ _ _ _ _ _ _ _ _ _ half; turns = told_fits _ _ _ _ _ _ _ _ _ _ half }
 
 pub returns : goal.returns
 returns g c =
-    let half = half_pointed _ _ _ _ _ _ _ c.requires.told _ _ _ _ _ _ c.leave.ensures c.court.ensures c.neighbours.ensures.all c.flag-flag.ensures c.opens-was_open.ensures c.opens-is_open.ensures in
+    let half = half_pointed _ _ _ _ _ _ _ c.requires.told _ _ _ _ _ _ _ c.leave.ensures c.court.ensures c.aim.ensures c.neighbours.ensures.all c.flag-flag.ensures c.opens-was_open.ensures c.opens-is_open.ensures in
     told_index _ _ _ _ _ _ _ _ _ _ _ half c.turn.ensures

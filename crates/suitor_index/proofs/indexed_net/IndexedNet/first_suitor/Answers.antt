@@ -6,5 +6,5 @@ returns-in-0 g c = no_suitor_counted g.R.Rules.COURTS_HIGHER_ONLY g.R.Rules.tabl
 
 pub returns-in-1 : goal.returns-in-1
 returns-in-1 g c =
-    one_suitor_counted g.R.Rules.COURTS_HIGHER_ONLY g.R.Rules.table.opens c.args.self.now.state c.args.v c.tally-tally.result c.new.result c.tally-tally.ensures.sound c.tally-tally.ensures.value
-    c.tally-tally.ensures.few c.in-1.is c.new.ensures
+    one_suitor_counted g.R.Rules.COURTS_HIGHER_ONLY g.R.Rules.table.opens c.args.self.now.state c.args.v c.tally-tally.result c.node_named.result c.tally-tally.ensures.sound c.tally-tally.ensures.value
+    c.tally-tally.ensures.few c.node_named.ensures.short c.in-1.is c.node_named.ensures.node
