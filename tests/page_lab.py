@@ -5,7 +5,7 @@ from __future__ import annotations
 import os
 import re
 import time
-from typing import Any, Sequence
+from typing import Any, Callable, Iterable, Sequence
 
 from browser import Browser, PageFault
 from page_hands import OWN_SCRIPTS, saved, waited
@@ -568,7 +568,16 @@ def without(pages: Pages, browser: Browser) -> None:
 
 
 def use(pages: Pages, browser: Browser) -> None:
-    for part in [opens, acts, moves, networks, texts, drops, addresses, fingers, keys, many, without]:
+    try_parts(pages, browser, [opens, acts, moves, networks, texts, drops, addresses, fingers, keys, without])
+
+
+def time_it(pages: Pages, browser: Browser) -> None:
+    """What other programs disturb if they keep the processors busy."""
+    try_parts(pages, browser, [many])
+
+
+def try_parts(pages: Pages, browser: Browser, parts: Iterable[Callable[[Pages, Browser], None]]) -> None:
+    for part in parts:
         try:
             part(pages, browser)
         except PageFault as wrong:

@@ -33,6 +33,8 @@ class Suite:
     lacks: Callable[[], str] = str
     # more words for each of the commands that together are the whole suite; the short run is one command
     parts: tuple[tuple[str, ...], ...] = ((),)
+    # begins before others, so that it does not end long after them
+    long: bool = False
     # measures time, so no other suite may run meanwhile
     alone: bool = False
 
@@ -113,7 +115,7 @@ class Schedule:
 
     def __init__(self, jobs: Sequence[Job], places: int, seconds: float, report: Report) -> None:
         self.places, self.seconds, self.report = places, seconds, report
-        in_turn = sorted(jobs, key=lambda job: job.suite.alone)
+        in_turn = sorted(jobs, key=lambda job: (job.suite.alone, not job.suite.long))
         self.waiting = [(job, words) for job in in_turn for words in job.commands]
         self.running: dict[Run, Job] = {}
 
