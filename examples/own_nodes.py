@@ -31,6 +31,8 @@ from rudekpi import conform  # noqa: E402
 NODES = [f"n{number:02}" for number in range(1, 31)]
 # the node that makes the mistake
 ODD = "n17"
+# how many turns it is late
+LATE = 20
 WORLD = "world"
 Held = tuple[Optional[str], bool]
 Message = tuple[str, str, Optional[Held]]
@@ -141,7 +143,7 @@ class Node(Peer):
                 own = self.pointer, self.flag, set(self.copies)
                 if self.mistake == "late":
                     self.let_go(names)
-                    await asyncio.sleep(0.001)
+                    await self.dawdle()
                 # what else changed its registers or links meanwhile is no mistake of the node
                 self.move(chosen if own == (self.pointer, self.flag, set(self.copies)) else None, near)
                 if self.mistake == "late":
@@ -149,6 +151,12 @@ class Node(Peer):
             else:
                 self.news.set()
             self.let_go(names)
+
+    @staticmethod
+    async def dawdle() -> None:
+        """Lets the others take some turns; how many does not depend on the clock."""
+        for _ in range(LATE):
+            await asyncio.sleep(0)
 
     def move(self, chosen: Optional[dict[str, Any]], near: dict[str, Held]) -> None:
         if chosen is None:

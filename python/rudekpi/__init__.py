@@ -43,6 +43,7 @@ from .errors import (
     WrongChoice,
 )
 from .explanations import Explanation, explain
+from .findings import Finding
 from .liveness import Waiting
 from .local_rules import LocalMove, local_rule, may_move
 from .log_merging import merged
@@ -99,6 +100,7 @@ __all__ = [
     "Epoch",
     "Explanation",
     "Fault",
+    "Finding",
     "Garbled",
     "LocalMove",
     "Lost",

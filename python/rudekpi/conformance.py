@@ -14,9 +14,10 @@ from typing import Any, Callable, Iterator, Mapping, Optional, Sequence
 
 from . import log_lines, rules
 from .ages import Histories, PairAges
-from .divergences import Diagnosis, Divergence, Judged, LastMove, LogPosition, refusal_text
+from .divergences import Diagnosis, Divergence, Judged, LogPosition, refusal_text
 from .engines import RULES, Engine, Stand, base_of, engine_of
 from .errors import BadLine, Ended, Garbled
+from .findings import Finding, Findings, LastMove, without_locks
 from .library import MOVES
 from .liveness import Waiting, longest
 from .log_inputs import Flaw, Input, opened_input
@@ -59,7 +60,8 @@ class Conformance:
     `bad_lines` counts the lines that were passed over, `twice` the links that both ends logged, `crossed` the
     pointers across a removed link, and `stuck` the waits that were too long; `cut_line` is the number of a
     last line that is cut, or 0. `waiting` are the enabled nodes of a log that was judged to its end, at most
-    ten, with the longest wait first.
+    ten, with the longest wait first. `findings` say what explains the wrong moves of each node, if the judge
+    went on after a divergence, or the stale reads that are all about one node.
     """
 
     rules: str
@@ -84,6 +86,7 @@ class Conformance:
     stuck: int = 0
     cut_line: int = 0
     waiting: tuple[Waiting, ...] = ()
+    findings: tuple[Finding, ...] = ()
 
     @property
     def is_accepted(self) -> bool:
@@ -146,6 +149,7 @@ class LogJudge:
         self.dangling: dict[int, int] = {}
         # the last move of each node with a view, and its line and view
         self.last_seen: dict[int, LastMove] = {}
+        self.findings = Findings(rules, self.name)
         self.running = Running(stuck, on_note, self.shown)
 
     def take(self, block: log_lines.Block) -> None:
@@ -433,7 +437,7 @@ class LogJudge:
             self.write(number, seen)
         else:
             self.settle(number, [Judged(seen, view, verdict)], -rule, [rule] if rule > 0 else [])
-        self.last_seen[seen.node] = number, seen, view
+        self.last_seen[seen.node] = number, seen, view, self.time
 
     def moves(self, number: int, seen: Sequence[Observed], views: Sequence[Optional[View]]) -> None:
         if not any(views):
@@ -447,7 +451,7 @@ class LogJudge:
         self.settle(number, judged, *self.asked_at_once(number, seen))
         for it, view, _ in judged:
             if view:
-                self.last_seen[it.node] = number, it, view
+                self.last_seen[it.node] = number, it, view, self.time
 
     def moves_unseen(self, number: int, seen: Sequence[Observed]) -> None:
         """Several moves at once, none of which says what its node saw."""
@@ -559,6 +563,10 @@ class LogJudge:
         found = replace(found, hint=crossing) if crossing else found
         self.divergences += 1
         self.first = self.first or found
+        if found.kind == "rule":
+            wrong = next(it for it in judged if it.seen is bad or it.seen == bad)
+            if wrong.view:
+                self.findings.add(number, self.time, bad, wrong.view, self.last_seen.get(bad.node))
         is_stale = found.kind == "stale" or (found.kind == "order" and found.hint)
         if found.kind == "stale":
             self.stale_moves += 1
@@ -625,6 +633,7 @@ class LogJudge:
             running.end()
         stand = self.machine.status()
         enabled = self.machine.enabled() if stand.enabled and not self.is_over else {}
+        ages = self.reads.table.rows(self.name) if self.views else ()
         return Conformance(
             self.rules,
             tuple(self.named.all),
@@ -641,13 +650,14 @@ class LogJudge:
             self.wrong_views,
             self.stale_moves,
             self.tallies.rows(self.name) if self.resync else (),
-            self.reads.table.rows(self.name) if self.views else (),
+            ages,
             running.bad_lines,
             running.twice,
             running.crossed,
             running.stuck,
             running.cut_line,
             longest(enabled, self.state, running.changes, running.waits, self.name),
+            self.findings.found(self.reads.unheld) + without_locks(ages, len(self.last_seen)) if self.resync else (),
         )
 
     def close(self) -> None:

@@ -4,10 +4,11 @@ from __future__ import annotations
 
 from collections import Counter
 from dataclasses import dataclass
-from typing import Any, Callable, Mapping, NamedTuple, Optional, Sequence, Tuple
+from typing import Any, Callable, Mapping, NamedTuple, Optional, Sequence
 
 from . import rules
 from .ages import Histories
+from .findings import LastMove, is_at_once
 from .library import REFUSALS
 from .log_lines import cut, spelled
 from .log_places import file_of, line_of
@@ -18,9 +19,6 @@ from .stale_hints import StaleHints
 from .stale_reads import Difference, StaleReads
 from .state import State
 from .views import View, ViewWords
-
-# a node's last move with a view, and its line
-LastMove = Tuple[int, Observed, View]
 
 
 @dataclass(frozen=True)
@@ -134,7 +132,7 @@ class Diagnosis:
         star = words.reasons(seen, view)
         rule = rules.rule_at(star.state, seen.node) if bad.verdict == 0 else None
         numbers = rules.targets(star.state, seen.node, rule) if rule else []
-        twice = (last[0], last[1]) if last and last[2].records == view.records else None
+        twice = (last[0], last[1], is_at_once(at.line, at.time, last)) if last and is_same(last, view) else None
         return Divergence(
             line_of(at.line),
             self.name(seen.node),
@@ -176,6 +174,10 @@ class Diagnosis:
         parts = [f"pointer {pointer}"] if seen.new != seen.old else []
         parts += [f"flag {str(seen.flag).lower()}"] if seen.flag != seen.was else []
         return f"{self.shown(seen.node)} wrote {' and '.join(parts) or 'nothing new'}"
+
+
+def is_same(last: LastMove, view: View) -> bool:
+    return last[2].records == view.records
 
 
 def spelled_line(line: Any) -> str:

@@ -14,6 +14,7 @@ from .conformance import AGE, Conformance, LogJudge, judge_blocks
 from .divergences import Divergence
 from .errors import BadLine, Ended
 from .explanations import explain
+from .findings import EARLY, UNLOCKED, Finding
 from .given import read_whole
 from .liveness import Waiting
 from .log_inputs import Input, opened_input
@@ -62,14 +63,26 @@ def views_text(found: Conformance) -> list[str]:
             f"on what the nodes saw: {counted(found.viewed, 'move')}, {found.wrong_views} wrong, "
             f"{found.stale_moves} by stale views"
         )
-    for head, rows, all_rows in (
-        ("nodes and rules", tally_lines(found.tallies[:LISTED], log_lines.shown), found.tallies),
-        ("stale reads", table_lines(found.ages[:LISTED], log_lines.shown), found.ages),
-    ):
-        if all_rows:
-            worst = f", the worst {LISTED} of {len(all_rows)}" if len(all_rows) > LISTED else ""
-            lines += [f"{head}{worst}:", *(f"  {row}" for row in rows)]
-    return lines
+    lines += worst_text("nodes and rules", tally_lines(found.tallies[:LISTED], log_lines.shown), len(found.tallies))
+    lines += findings_text(found)
+    return lines + worst_text("stale reads", table_lines(found.ages[:LISTED], log_lines.shown), len(found.ages))
+
+
+def worst_text(head: str, rows: Sequence[str], count: int) -> list[str]:
+    worst = f", the worst {LISTED} of {count}" if count > LISTED else ""
+    return [f"{head}{worst}:", *(f"  {row}" for row in rows)] if count else []
+
+
+def findings_text(found: Conformance) -> list[str]:
+    """What explains the wrong moves, or the stale reads, of each node."""
+    more = len(found.findings) - LISTED
+    lines = [finding_text(it) for it in found.findings[:LISTED]] + ([f"and {more} more nodes"] if more > 0 else [])
+    return ["what explains them:", *(f"  {line}" for line in lines)] if lines else []
+
+
+def finding_text(found: Finding) -> str:
+    what = "stale read" if found.cause in (UNLOCKED, EARLY) else "wrong move"
+    return f"{log_lines.shown(found.node)}, {counted(found.count, what)}: {found.text}"
 
 
 def verdict_text(found: Conformance) -> str:

@@ -37,10 +37,14 @@ def observed(node: int, old: int, new: int, was: bool, flag: bool) -> Observed:
 
 
 def with_own(did: Observed, pointer: int, flag: bool) -> list[Observed]:
-    """The same line, had the node held other registers: one that seems unchanged may be written or not."""
-    pointers = {did.new, pointer} if did.new == did.old else {did.new}
-    flags = {did.flag, flag} if did.flag == did.was else {did.flag}
-    return [observed(did.node, pointer, new, flag, after) for new in pointers for after in flags]
+    """The same line, had the node held other registers.
+
+    The line names the register that it changed. If it changed none, it may name either one.
+    """
+    if did.new != did.old or did.flag != did.was:
+        new, after = did.new if did.new != did.old else pointer, did.flag if did.flag != did.was else flag
+        return [observed(did.node, pointer, new, flag, after)]
+    return [observed(did.node, pointer, new, flag, after) for new in {did.new, pointer} for after in {did.flag, flag}]
 
 
 def is_plain(move: Any) -> bool:

@@ -52,6 +52,8 @@ class StaleReads:
     ) -> None:
         self.state, self.past, self.dangling, self.shown, self.name = (state, past, dangling, shown, name)
         self.table = AgeTable()
+        # how often a node was seen to hold what no line wrote
+        self.unheld: dict[int, int] = {}
 
     def count(self, line: int, time: Optional[float], node: int, view: View) -> None:
         """Counts the reads of a move."""
@@ -81,6 +83,8 @@ class StaleReads:
         else:
             found = self.past.last(other, pointer, flag)
             if not found:
+                if not self.past.may_be_older(other, pointer, flag):
+                    self.unheld[other] = self.unheld.get(other, 0) + 1
                 return self.table.add(node, other, None, None)
             begun = found[1][:2]
         self.table.add(node, other, line - begun[0], since(time, begun[1]))

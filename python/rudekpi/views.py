@@ -236,13 +236,15 @@ class ViewWords:
             return f"{self.shown(at)} points at itself in what {name} saw"
         return f"{name} points at {self.shown(did.old)}, and saw no {self.shown(did.old)}: it may only write null"
 
-    def hint(self, did: Observed, view: View, twice: Optional[Tuple[int, Observed]]) -> str:
-        """What else may be wrong at the node; `twice` is its last move on the same view, and the line."""
+    def hint(self, did: Observed, view: View, twice: Optional[Tuple[int, Observed, bool]]) -> str:
+        """What else may be wrong at the node. `twice` is its last move on the same view, with the line, and
+        whether both came at once."""
         name = self.shown(did.node)
         if twice and self.is_allowed_from(did, view, twice[1].old, twice[1].was):
+            what = "moved twice by one view" if twice[2] else "changed without a line"
             return (
                 f"with what {name} held before line {twice[0]} it was allowed: "
-                f"{name} may have moved twice by one view, lost what it wrote, or changed without a line"
+                f"{name} may have {what}, or lost what it wrote"
             )
         for move in moves_of(star(self.rules, did, view), did.node):
             if self.is_allowed_from(did, view, move.new, move.flag):

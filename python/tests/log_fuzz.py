@@ -7,13 +7,15 @@ N logs are judged (10,000 by default). A second reading makes a transcript of al
 move by the one rule that writes so, and has it audited. A log passes if both find the same first line, and
 agree that it is no event or that the rules do not allow it. A link that both ends log counts once. A last
 line that is cut does not count. Some logs say what the nodes saw. They are judged by views too, which changes
-no bad line. Any other error fails. A log that fails is printed, and the exit status is 1.
+no bad line. Some are judged packed, and as two logs with clocks, too. Any other error fails. A log that fails is printed, and the exit status is 1.
 """
 
 from __future__ import annotations
 
 import argparse
 import collections
+import contextlib
+import gzip
 import io
 import json
 import os
@@ -25,7 +27,7 @@ import time
 from typing import Any, Iterator, Optional
 
 sys.path.insert(0, os.path.join(os.path.dirname(os.path.realpath(__file__)), ".."))
-from rudekpi import BadLine, Damaged, Divergence, audit, conform  # noqa: E402
+from rudekpi import BadLine, Damaged, Divergence, audit, conform, merged  # noqa: E402
 
 EXAMPLES = pathlib.Path(__file__).resolve().parents[2] / "examples"
 FREE = {"time", "clock"}
@@ -351,6 +353,27 @@ def fault_by_views(log: bytes, rules: str, engine: str, first: Verdict) -> list[
         return [f"by views the transcript is refused: {damaged}"]
 
 
+def fault_of_forms(log: bytes, rules: str, engine: str, first: Verdict, chance: random.Random) -> list[str]:
+    """What is wrong with the same log if it is packed, or if its lines are in two logs and have clocks."""
+    packed = first_verdict(gzip.compress(log, 1), rules, engine)
+    if packed != first:
+        return [f"{first}, and packed {packed}"]
+    parts: dict[str, list[bytes]] = {"a": [], "b": []}
+    places: dict[tuple[str, int], int] = {}
+    for number, line in enumerate(log.split(b"\n"), 1):
+        name = chance.choice("ab") if number > 1 else "a"
+        parts[name].append(b'{"clock": %d, %b' % (number, line[1:]) if line.startswith(b"{") else line)
+        places[name, len(parts[name])] = number
+    whole = merged({name: b"".join(line + b"\n" for line in lines) for name, lines in parts.items()})
+    with contextlib.suppress(BadLine):
+        conform(whole, rules, engine=engine, views=True, resync=True)
+    if first[0] == "bad" or b'"clock"' in log or not log.endswith(b"\n"):
+        return []
+    found = conform(whole, rules, engine=engine).first
+    place = places[found.file, found.line] if found else 0
+    return [] if place == first[1] else [f"{first}, and in two logs line {place}"]
+
+
 def damaged_value(value: Any, chance: random.Random) -> Any:
     return chance.choice(
         [value, None, True, 1, 0.5, "", "a", "b", "zz", [], {}, [value], -1, "\ud800", 10**30, {"a": value}]
@@ -423,6 +446,9 @@ def fuzz(count: int, seed: int, engine: str = "library") -> tuple[collections.Co
         try:
             first, second = first_verdict(log, rules, engine), second_verdict(log, rules, engine)
             faults = fault_of_resync(log, rules, engine, first) + fault_by_views(log, rules, engine, first)
+            # with draws of its own, so that the logs stay those of the seed
+            other = random.Random(len(log))
+            faults += fault_of_forms(log, rules, engine, first, other) if other.random() < 0.2 else []
         except Exception as error:
             wrong.append(f"{error!r}: {rules} {log!r}")
             continue

@@ -13,8 +13,9 @@ import sys
 from typing import Any, Optional
 from unittest import main
 
-from rudekpi import BadLine, Conformance, Divergence, audit, conform
+from rudekpi import BadLine, Conformance, Divergence, Finding, audit, conform
 from rudekpi.ages import Histories, Spread
+from rudekpi.findings import FEW
 from support import TOP, Timed
 
 HEAD = ['{"nodes": ["a", "b", "c", "d"]}', '{"link": ["a", "b"]}', '{"link": ["b", "c"]}', '{"link": ["c", "d"]}']
@@ -218,9 +219,15 @@ class ByHand(Timed):
         found = self.first(twice, views=True)
         self.assertIn("it holds that already", found.why)
         self.assertIn(
-            "with what c held before line 6 it was allowed: c may have moved twice by one view, lost what it wrote",
+            "with what c held before line 6 it was allowed: c may have moved twice by one view, or lost what it wrote",
             found.hint,
         )
+        # the same, but other lines came between: it was not at once
+        found = self.first([*twice[:-1], '{"fault": "a", "pointer": null}', twice[-1]], views=True)
+        self.assertIn("c may have changed without a line, or lost what it wrote", found.hint)
+        # by the times it was
+        found = self.first([*twice[:-2], at(7, twice[-2]), at(7, '{"link": ["a", "d"]}'), at(7, twice[-1])], views=True)
+        self.assertIn("c may have moved twice by one view", found.hint)
         # c's flag is set without having married: the line of the marriage is missing
         found = self.first([*HEAD, B_SEDUCES, move("c", saw, flag=True)], views=True)
         self.assertIn("c had to write pointer b first: it skipped that, or the line is missing", found.hint)
@@ -430,16 +437,23 @@ class StaleNodes(Timed):
     engines = ("library",)
     seconds = 120
     seeds = range(1, 21)
-    # what the first divergence says, by the mistake
+    # what the first divergence says, by the mistake; and what all of them together say
     words = {
         "guard": r"may only wait for|waits for",
         "low": r"stands below n17|no neighbour above it|n17 may only (seduce|marry)",
         "skip": r"its flag is true: n17 may only update .* had to write flag false first: it skipped that",
         "flag": r"flag (true|false) (it was allowed|first): (n17 may have changed|it skipped that, or)"
-        r"|lost what it wrote, or",
+        r"|or lost what it wrote",
         "twice": r"it was allowed: n17 may have moved twice by one view",
-        "unlogged": r"n17 may have changed without a line|or the line is missing|n17 changed without a line"
-        r"|or changed without a line",
+        "unlogged": r"n17 may have changed without a line|or the line is missing|n17 changed without a line",
+    }
+    causes = {
+        "guard": ("guard", "the guard of abandon is wrong"),
+        "low": ("below", "it seduces neighbours below it"),
+        "skip": ("skipped", "it goes on without clearing its flag"),
+        "flag": ("flag", "its flag falls without a line"),
+        "twice": ("twice", "it moves twice by one view"),
+        "unlogged": ("unlogged", "some of its moves have no line"),
     }
 
     def told(self, rules: str, mistake: str, seed: int, events: int) -> tuple[Conformance, list[Divergence]]:
@@ -453,17 +467,19 @@ class StaleNodes(Timed):
             for seed in self.seeds:
                 found, _ = self.told(rules, "", seed, 300)
                 self.assertEqual((found.divergences, found.wrong_views, found.stopped), (0, 0, ""))
+                self.assertEqual(found.findings, ())
                 stale += found.stale_moves
             self.assertGreater(stale, 20)
 
     def test_each_mistake_is_named(self) -> None:
+        """The first divergence by its line alone, with care; all of them by what explains all of them."""
         cases = [("manne", mistake) for mistake in self.words] + [("hh", "guard"), ("hh", "twice")]
         for rules, mistake in cases:
             for seed in self.seeds:
                 with self.subTest(mistake, rules=rules, seed=seed):
-                    for events in (250, 1000, 4000):
+                    for events in (300, 1000, 3000, 10000):
                         found, told = self.told(rules, mistake, seed, events)
-                        if told:
+                        if len(told) >= FEW:
                             break
                     assert found.first is not None
                     self.assertEqual({(it.node, it.kind) for it in told}, {("n17", "rule")})
@@ -472,28 +488,33 @@ class StaleNodes(Timed):
                     self.assertNotIn("stale", said)
                     row = found.tallies[0]
                     self.assertEqual((row.node, row.wrong > 0), ("n17", True))
+                    cause, text = self.causes[mistake]
+                    self.assertEqual(found.findings, (Finding("n17", cause, len(told), text),))
+
+    def test_few_wrong_moves_do_not_tell_what_explains_them(self) -> None:
+        lost = [*STALE, move("b", {"a": NULL, "c": ["b", True]}, flag=True)]
+        found = conform(lost, "manne", views=True).findings
+        text = "its flag falls without a line, or some of its moves have no line"
+        self.assertEqual(found, (Finding("b", "flag", 1, text),))
 
     def test_writes_after_unlocking(self) -> None:
         """own_nodes: right on what it saw, which was stale; so no node broke a rule."""
-        path, found_late = pathlib.Path(self.folder(), "log"), 0
-        for seed in ("1", "2", "3"):
+        path = pathlib.Path(self.folder(), "log")
+        text = "it writes after it has returned its locks, while others hold its lock"
+        for seed in ("2", "3", "4"):
             words = ("--saw", "--mistake", "late", "--events", "1500", "--seed", seed, "--log", str(path))
             script = os.path.join(TOP, "examples", "own_nodes.py")
             done = subprocess.run([sys.executable, script, *words], capture_output=True, encoding="utf-8")
-            self.assertIn((done.returncode, done.stderr), [(0, ""), (1, "")])
+            self.assertEqual((done.returncode, done.stderr), (1, ""))
             found = conform(path, "manne")
-            self.assertTrue(conform(path, "manne", views=True))
-            if found.first is None:
-                # no neighbour wrote between the locks and any late write
-                continue
-            found_late += 1
-            # a neighbour that had n17's lock meanwhile may be the first that is named
-            self.assertEqual(found.first.kind, "stale")
-            self.assertIn("n17", [found.first.node, *(it.node for it in found.first.differences)])
+            assert found.first is not None
+            self.assertEqual((found.first.node, found.first.kind), ("n17", "stale"))
             self.assertTrue(
                 any(re.search(r"until line \d+, \d+ lines? ago", it.text) for it in found.first.differences)
             )
-        self.assertGreater(found_late, 0)
+            by_views = conform(path, "manne", views=True)
+            self.assertTrue(by_views)
+            self.assertEqual([(it.node, it.cause, it.text) for it in by_views.findings], [("n17", "unlocked", text)])
 
 
 STALE_NODES = example("stale_nodes")
