@@ -30,13 +30,17 @@ class Ended:
     seconds: float
 
 
+def each_process(file: str) -> Iterator[tuple[int, bytes]]:
+    """The processes of the machine, each with what such a file of /proc says; one that ends is left out."""
+    for name in os.listdir("/proc"):
+        with contextlib.suppress(OSError):
+            if name.isdigit():
+                yield int(name), pathlib.Path("/proc", name, file).read_bytes()
+
+
 def parents() -> dict[int, int]:
     """Each process of the machine, and the one that started it."""
-    found = {}
-    for path in pathlib.Path("/proc").glob("[0-9]*/stat"):
-        with contextlib.suppress(OSError, ValueError, IndexError):
-            found[int(path.parent.name)] = int(path.read_text("ascii", "replace").rsplit(")", 1)[1].split()[1])
-    return found
+    return {process: int(line.rsplit(b")", 1)[1].split()[1]) for process, line in each_process("stat")}
 
 
 def below(top: int) -> set[int]:
@@ -61,12 +65,10 @@ def marked_by(top: int) -> set[int]:
 
 def all_marks() -> Iterator[tuple[int, list[str]]]:
     """The processes with marks in their environments."""
-    for path in pathlib.Path("/proc").glob("[0-9]*/environ"):
-        with contextlib.suppress(OSError):
-            words = path.read_bytes().decode(errors="replace").split("\0")
-            marks = next((word[len(MARKS) + 1 :] for word in words if word.startswith(f"{MARKS}=")), "")
-            if marks:
-                yield int(path.parent.name), marks.split(":")
+    for process, words in each_process("environ"):
+        marks = [word for word in words.decode(errors="replace").split("\0") if word.startswith(f"{MARKS}=")]
+        if marks:
+            yield process, marks[0][len(MARKS) + 1 :].split(":")
 
 
 class Run:
