@@ -124,7 +124,7 @@ int main(void) {
     }
     for (size_t at = 0; at < sizeof faults / sizeof *faults; at++) ask(&faults[at], RUDEKPI_NOT_SHOWN, "a fault", at);
     give_bad_numbers();
-    if (strcmp(rudekpi_status_text(RUDEKPI_NOT_SHOWN), "shown by no state") || rudekpi_status_text(10)[0] != 'u')
+    if (strcmp(rudekpi_status_text(RUDEKPI_NOT_SHOWN), "shown by no state") || rudekpi_status_text(11)[0] != 'u')
         fail("a status's text", 9);
     if (strcmp(rudekpi_view_fault_text(RUDEKPI_POINTS_AT_STRANGER), "the node points at a name that is no neighbour"))
         fail("a fault's text", 4);

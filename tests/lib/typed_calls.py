@@ -8,7 +8,7 @@ from typing import Any, Optional
 
 from .c_structs import COUNTS, Counts, Item, Row, Told
 
-DONE, REFUSED, NOT_SILENT = 0, 6, 8
+DONE, REFUSED, NOT_SILENT, NOT_COUNTED = 0, 6, 8, 10
 RULES = {"update": 1, "marry": 2, "seduce": 3, "abandon": 4}
 EDITS = {"link": 2, "unlink": 2, "join": 1, "leave": 1, "point": 2, "flag": 2}
 # By their names after `rudekpi_`.
@@ -37,6 +37,9 @@ def typed(library: ctypes.CDLL, slot: Any) -> Calls:
         "transcript": [ctypes.c_bool],
         "partner": [number, ctypes.POINTER(number)],
         "moves_left": [ctypes.POINTER(number)],
+        "count_rounds": [],
+        "rounds": [ctypes.POINTER(number)],
+        "rounds_left": [ctypes.POINTER(number)],
         "is_at_rest": [number, ctypes.POINTER(ctypes.c_bool)],
     }
     for name, words in others.items():
@@ -170,6 +173,15 @@ def left(calls: Calls, slot: Any) -> int:
     if calls["moves_left"](slot, ctypes.byref(found)) != DONE:
         raise ValueError("no answer how many moves can still come")
     return int(found.value)
+
+
+def rounds(calls: Calls, slot: Any, kind: str) -> Optional[int]:
+    """The rounds, or the `rounds_left`; None if they are not counted."""
+    found = ctypes.c_uint32(9)
+    status = calls[kind](slot, ctypes.byref(found))
+    if status not in (DONE, NOT_COUNTED) or (status == NOT_COUNTED and found.value):
+        raise ValueError(f"no answer how many {kind} there are")
+    return int(found.value) if status == DONE else None
 
 
 def most_left(rules: int, charge: int, nodes: int) -> int:

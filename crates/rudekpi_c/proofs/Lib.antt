@@ -17,3 +17,4 @@ pub mod Partners
 pub mod Renumbering
 pub mod Resumption
 pub mod RowOutput
+pub mod RoundsLeft

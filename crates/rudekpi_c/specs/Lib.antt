@@ -11,6 +11,7 @@ pub mod SessionQuestions
 pub mod ReachCalls
 pub mod Renumbering
 pub mod Resumption
+pub mod RoundCalls
 pub mod Session
 pub mod Slot
 pub mod ReplyNumbers

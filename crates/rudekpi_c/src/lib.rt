@@ -34,6 +34,7 @@ mod parts;
 mod reach;
 mod renumber;
 mod resume;
+mod rounds;
 mod row;
 mod session;
 mod sessions;

@@ -29,3 +29,6 @@ pub(crate) const NOT_SILENT: u32 = 8;
 
 /// No state of the machine shows what a node holds.
 pub(crate) const NOT_SHOWN: u32 = 9;
+
+/// Rounds are not counted.
+pub(crate) const NOT_COUNTED: u32 = 10;

@@ -39,7 +39,8 @@ some_by t s n event (Some refusal) moves s' does = absurd (differ does.0)
     differ : Moves moves ≡ Refused refusal → ⊥
     differ same = let one : 2 ≡ 0 = ap kind same in omega (arith, one)
 
-some_moves : (t : RuleTable) (s : State) (n : ℕ) (event : Event) (moves : List Moved) (s' : State) → Answers t s n event (Moves moves) s' → 1 ≤ length moves
+-- a step has a move
+pub some_moves : (t : RuleTable) (s : State) (n : ℕ) (event : Event) (moves : List Moved) (s' : State) → Answers t s n event (Moves moves) s' → 1 ≤ length moves
 some_moves t s n event moves s' answers = some_by t s n event (refusal_of t s event) moves s' answers
 
 later_moment : (next : Moment) (spent : ℕ) → next.spent ≡ spent → record { state = next.state; spent = spent } ≡ next

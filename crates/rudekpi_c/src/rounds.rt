@@ -1,0 +1,160 @@
+//! How many rounds are complete, and how many can still come. Asking makes no entry.
+
+ghost use Rattle.std.specs.Prelude.{◌≡◌, IfSome};
+ghost use Rattle.rule_machine.specs.HsuHuang.{hsu_huang};
+ghost use Rattle.rule_machine.specs.Manne.{manne};
+ghost use Rattle.rule_machine.specs.Tables.{table_of};
+ghost use Rattle.run_session.specs.Line.{recording_moment};
+ghost use Rattle.step_log.specs.Rounds.{HasRounds};
+ghost use Rattle.rudekpi_c.specs.RoundCalls.{AnswersCounting, AnswersRounds, AnswersRoundsLeft, BoundsRounds, LeavesRounds};
+ghost use Rattle.rudekpi_c.specs.Session.{stands, rules_of};
+
+use crate::session::{Machine, Session};
+use crate::slot::Slot;
+use crate::status::{DONE, MEMORY, NO_SESSION, NOT_COUNTED};
+use round_laws::{hsu_huang_rounds_are_few, manne_rounds_are_few};
+use rule_engine::NodeBound;
+use rule_machine::Want;
+use rules_api::Rules;
+use rules_hsu_huang::HsuHuang;
+use rules_manne::Manne;
+use run_session::Run;
+use std::alloc::Global;
+
+fn count_rounds<R: Rules>(run: &mut Run<R>, alloc: Global) -> Result<(), Want>
+    ensures { run.new ≡ run.old }
+{
+    run.recorder.count_rounds(alloc)
+}
+
+fn rounds<R: Rules>(run: &Run<R>) -> Option<u32>
+    ensures { IfSome result (λ rounds. HasRounds R.table (recording_moment run.now.recorder) rounds) }
+{
+    run.recorder.rounds()
+}
+
+/// At most as many rounds as moves can still come.
+fn rounds_left<R: NodeBound>(run: &mut Run<R>, most: u32) -> Option<u32>
+    requires { BoundsRounds R.table run.old.recorder.state.network most }
+    ensures left { IfSome result (λ left. LeavesRounds R.table (recording_moment run.old.recorder) left) }
+    ensures kept { run.new ≡ run.old }
+{
+    let Some(rounds) = run.recorder.rounds() else {
+        return None;
+    };
+    let moves = run.recorder.moves_left();
+    Some(most.saturating_sub(rounds).min(moves))
+}
+
+fn most_by_hsu_huang(run: &Run<HsuHuang>) -> u32
+    ensures { BoundsRounds hsu_huang run.now.recorder.state.network result }
+{
+    hsu_huang_rounds_are_few();
+    run.recorder.net().store().nodes()
+}
+
+fn most_by_manne(run: &Run<Manne>) -> u32
+    ensures { BoundsRounds manne run.now.recorder.state.network result }
+{
+    manne_rounds_are_few();
+    let nodes = run.recorder.net().store().nodes();
+    nodes + 2 * (nodes / 2)
+}
+
+impl Session {
+    fn count_rounds(&mut self, alloc: Global) -> Result<(), Want>
+        ensures { self.new ≡ self.old }
+    {
+        match &mut self.machine {
+            Machine::Hh(run) => count_rounds(run, alloc),
+            Machine::Manne(run) => count_rounds(run, alloc),
+        }
+    }
+
+    fn rounds(&self) -> Option<u32>
+        ensures { IfSome result (λ rounds. HasRounds (table_of (rules_of self.now)) (stands self.now).moment rounds) }
+    {
+        match &self.machine {
+            Machine::Hh(run) => rounds(run),
+            Machine::Manne(run) => rounds(run),
+        }
+    }
+
+    fn rounds_left(&mut self) -> Option<u32>
+        ensures left { IfSome result (λ left. LeavesRounds (table_of (rules_of self.old)) (stands self.old).moment left) }
+        ensures kept { self.new ≡ self.old }
+    {
+        match &mut self.machine {
+            Machine::Hh(run) => {
+                let most = most_by_hsu_huang(run);
+                rounds_left(run, most)
+            }
+            Machine::Manne(run) => {
+                let most = most_by_manne(run);
+                rounds_left(run, most)
+            }
+        }
+    }
+}
+
+/// Counts the rounds of a session from here on, or from here anew.
+///
+/// Returns 3 if memory runs out, and 4 if there is no session; then nothing has changed. Takes some nine
+/// kilobytes. From then on a step costs a look or two more at each neighbour of a mover.
+#[unsafe(no_mangle)]
+pub extern "C" fn rudekpi_count_rounds(alloc: Global, slot: &mut Slot) -> u32
+    ensures answers { AnswersCounting result slot.old.handle.value }
+    ensures kept { slot.new.handle.value ≡ slot.old.handle.value }
+{
+    let Some(mut session) = slot.take(alloc) else {
+        return NO_SESSION;
+    };
+    let done = session.count_rounds(alloc);
+    slot.put(session);
+    match done {
+        Ok(()) => DONE,
+        Err(_) => MEMORY,
+    }
+}
+
+/// Writes how many rounds are complete since the last accepted disturbance, or since counting began.
+///
+/// Returns 4 if there is no session, and 10 if rounds are not counted; then 0 is written. Constant time.
+#[unsafe(no_mangle)]
+pub extern "C" fn rudekpi_rounds(alloc: Global, slot: &mut Slot, rounds: &mut u32) -> u32
+    ensures answers { AnswersRounds result rounds.new slot.old.handle.value }
+    ensures kept { slot.new.handle.value ≡ slot.old.handle.value }
+{
+    *rounds = 0;
+    let Some(session) = slot.take(alloc) else {
+        return NO_SESSION;
+    };
+    let found = session.rounds();
+    slot.put(session);
+    let Some(complete) = found else {
+        return NOT_COUNTED;
+    };
+    *rounds = complete;
+    DONE
+}
+
+/// Writes how many rounds can still be completed before the next accepted edit or fault: 0 in silence.
+///
+/// Returns 4 if there is no session, and 10 if rounds are not counted; then 0 is written.
+#[unsafe(no_mangle)]
+pub extern "C" fn rudekpi_rounds_left(alloc: Global, slot: &mut Slot, left: &mut u32) -> u32
+    ensures answers { AnswersRoundsLeft result left.new slot.old.handle.value }
+    ensures kept { slot.new.handle.value ≡ slot.old.handle.value }
+{
+    *left = 0;
+    let Some(mut session) = slot.take(alloc) else {
+        return NO_SESSION;
+    };
+    let found = session.rounds_left();
+    slot.put(session);
+    let Some(most) = found else {
+        return NOT_COUNTED;
+    };
+    *left = most;
+    DONE
+}
