@@ -1,6 +1,6 @@
 -- Sums over the neighbours of a node.
-use Rattle.suitor_index.proofs.Prelude.{◌≡◌, ◌≢◌, ℕ, zero, suc, ◌+◌, ◌*◌, ◌<◌, ◌≤◌, Bool, true, cond, List, filter, nat_eq, IsTrue, sym, ap, ap₂, ◌∙◌, ⊎_elim, arith, ◌-◌, ◌&&◌, sum_by, list_any, range_with_len, both_ways, IsStrictlyIncreasing, and_parts, cases_eq, eqb-true, eq-eqb, IsStrictlyIncreasing-filter, sum_by-cons, any-filter_same, get_or-range_with_len, length-range_with_len, list_any_at, Network, IsNetwork, linked, neighbours, names, present, linked_back, linked_present, present_range, neighbours_range, names_increasing}
-use Rattle.suitor_index.proofs.Sums.{sum_filter, sum_same, sum_turn, sum_small, sum_ones}
+use Rattle.suitor_index.proofs.Prelude.{◌≡◌, ◌≢◌, ℕ, zero, suc, ◌+◌, ◌<◌, ◌≤◌, Bool, true, cond, List, filter, nat_eq, IsTrue, sym, ap, ap₂, ◌∙◌, ⊎_elim, arith, ◌-◌, ◌&&◌, sum_by, list_any, range_with_len, both_ways, IsStrictlyIncreasing, and_parts, cases_eq, eqb-true, eq-eqb, IsStrictlyIncreasing-filter, sum_by-cons, any-filter_same, get_or-range_with_len, length-range_with_len, list_any_at, Network, IsNetwork, linked, neighbours, names, present, linked_back, linked_present, present_range, neighbours_range, names_increasing}
+use Rattle.suitor_index.proofs.Sums.{sum_filter, sum_same, sum_turn, sum_ones}
 
 -- the term of a name that may be a neighbour
 abbrev pub term : Network → ℕ → (ℕ → ℕ) → ℕ → ℕ
@@ -56,18 +56,6 @@ near_ones net k f few =
     omega (arith, one, le)
   where
     small : (b : Bool) (n : ℕ) → n ≤ 1 → cond b n 0 ≤ 1
-    small b n le = grind arith
-
-pub near_names : (net : Network) (k : ℕ) (f : ℕ → ℕ) → net.size ≤ 65535 → ((x : ℕ) → f x ≤ x) → sum_by f (neighbours net k) ≤ net.size * 65535
-near_names net k f size few =
-    let one = by_names net k f in
-    let le = sum_small (λ x. cond (present net x) (term net k f x) 0) 1 net.size (λ x low high. small (present net x) _ (name (linked net k x) (f x) x (few x) (omega arith))) in
-    omega (arith, one, le)
-  where
-    name : (b : Bool) (n x : ℕ) → n ≤ x → x ≤ 65535 → cond b n 0 ≤ 65535
-    name b n x le high = grind arith
-
-    small : (b : Bool) (n : ℕ) → n ≤ 65535 → cond b n 0 ≤ 65535
     small b n le = grind arith
 
 -- the neighbours rise

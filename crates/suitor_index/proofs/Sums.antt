@@ -1,5 +1,5 @@
 -- Sums and counts over a list.
-use Rattle.suitor_index.proofs.Prelude.{◌≡◌, ◌≢◌, ℕ, zero, suc, ◌+◌, ◌*◌, ◌<◌, ◌≤◌, Bool, true, false, cond, List, [], ◌∷◌, reverse, filter, find, Option, Some, None, is_some, nat_lt, refl, sym, ap, ◌∙◌, ⊎_elim, arith, sum_by, count_by, range_with_len, cases_eq, lt-ltb, sum_by-cons, IsPermutation-reverse, sum_by-IsPermutation, name_if}
+use Rattle.suitor_index.proofs.Prelude.{◌≡◌, ◌≢◌, ℕ, zero, suc, ◌+◌, ◌<◌, ◌≤◌, Bool, true, false, cond, List, [], ◌∷◌, reverse, filter, find, Option, Some, None, is_some, nat_lt, refl, sym, ap, ◌∙◌, ⊎_elim, arith, sum_by, count_by, range_with_len, cases_eq, lt-ltb, sum_by-cons, IsPermutation-reverse, sum_by-IsPermutation, name_if}
 
 filter_step : (f : ℕ → ℕ) (x : ℕ) (kept : List ℕ) (n : ℕ) (b : Bool) → sum_by f kept ≡ n → sum_by f (cond b (x ∷ kept) kept) ≡ cond b (f x) 0 + n
 filter_step f x kept n true rest = sum_by-cons f x kept ∙ ap (λ m. f x + m) rest
@@ -35,15 +35,6 @@ sum_turn f g b a (suc n) low high same =
     let rest = sum_turn f g b (a + 1) n (omega arith) (omega arith) (λ x above below. same x (omega arith) (omega arith)) in
     omega (arith, one, two, first, rest))
     (cases_eq a b)
-
--- a sum of small terms
-pub sum_small : (f : ℕ → ℕ) (a n : ℕ) → ((x : ℕ) → a ≤ x → x < a + n → f x ≤ 65535) → sum_by f (range_with_len a n) ≤ n * 65535
-sum_small f a zero few = omega arith
-sum_small f a (suc n) few =
-    let one = sum_by-cons f a (range_with_len (a + 1) n) in
-    let here = few a (omega arith) (omega arith) in
-    let rest = sum_small f (a + 1) n (λ x low high. few x (omega arith) (omega arith)) in
-    omega (arith, one, here, rest)
 
 -- a sum of ones at most
 pub sum_ones : (f : ℕ → ℕ) (a n : ℕ) → ((x : ℕ) → a ≤ x → x < a + n → f x ≤ 1) → sum_by f (range_with_len a n) ≤ n

@@ -1,4 +1,4 @@
-use Rattle.rule_engine.proofs.Prelude.{◌≡◌, ◌∙◌, ◌&&◌, List, ℕ, false, nat_eq, take, ap, ap₂, sym, arith, take_all, StateView, neighbours, State, has_suitor, points, suits, is_suitor}
+use Rattle.rule_engine.proofs.Prelude.{◌≡◌, ◌∙◌, ◌&&◌, List, ℕ, false, nat_eq, take, ap, ap₂, sym, arith, take_all, StateView, neighbours, State, has_suitor, suits, is_suitor}
 use Rattle.rule_engine.proofs.GuardRefresh.{looked_alike, looked_more, looked_neighbours, looked_none, looked_unsuited}
 use Rattle.rule_engine.proofs.look.look_at_suitors.Goals as goal
 
@@ -23,8 +23,8 @@ loop-w-preserved g c =
     let v = c.args.v in
     let w = c.w-item.result in
     looked_more g.R.Rules.table s (λ x. false) (λ y x. nat_eq x y && suits s v y) c.neighbours-neighbours.result.now c.loop-w.w-index w _ _ _ c.loop-w-test.true c.w-item.is c.loop-w.invariant
-    (looked_alike g.R.Rules.table s (λ x. nat_eq x w && c.points_at.result) (λ x. nat_eq x w && suits s v w) _ _
-    (λ x. ap (λ b. nat_eq x w && b) (c.points_at.ensures ∙ ap (λ r. points r w v) c.registers.ensures.value))
+    (looked_alike g.R.Rules.table s (λ x. nat_eq x w && c.points.result) (λ x. nat_eq x w && suits s v w) _ _
+    (λ x. ap (λ b. nat_eq x w && b) c.points.ensures)
     c.look_if.ensures)
 
 pub returns : goal.returns
