@@ -5,11 +5,11 @@ abbrev pub target_named : ℕ → Option ℕ
 target_named zero = None
 target_named (suc n) = Some (suc n)
 
-abbrev pub name_of : Option ℕ → ℕ
-name_of None = 0
-name_of (Some w) = w
+abbrev pub stored_name : Option ℕ → ℕ
+stored_name None = 0
+stored_name (Some w) = w
 
 -- a pointer's name is that of its target
-pub name_of_target : (name : ℕ) → name_of (target_named name) ≡ name
-name_of_target zero = refl
-name_of_target (suc n) = refl
+pub stored_name_of_target : (name : ℕ) → stored_name (target_named name) ≡ name
+stored_name_of_target zero = refl
+stored_name_of_target (suc n) = refl

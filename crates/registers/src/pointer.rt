@@ -15,15 +15,15 @@ pub struct Pointer {
 
 impl Model for Pointer {
     ghost use Rattle.std.specs.Prelude.{ℕ, Option};
-    ghost use Rattle.registers.specs.Pointers.{target_named, name_of, name_of_target};
+    ghost use Rattle.registers.specs.Pointers.{target_named, stored_name, stored_name_of_target};
 
     ghost Value = { Option ℕ };
 
     ghost view = { λ p. target_named p.name };
 
-    ghost inverse = { λ target. record { name = name_of target } };
+    ghost inverse = { λ target. record { name = stored_name target } };
 
-    ghost inverse_ok = { λ p _ i. record { name = name_of_target p.name i } };
+    ghost inverse_ok = { λ p _ i. record { name = stored_name_of_target p.name i } };
 }
 
 impl Pointer {

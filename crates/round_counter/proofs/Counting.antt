@@ -1,5 +1,5 @@
 -- A counter before an entry and after it.
-use Rattle.round_counter.proofs.Prelude.{◌≡◌, ℕ, ◌+◌, ◌≤◌, Bool, true, false, cond, not, ◌&&◌, List, [], ◌∷◌, ◌++◌, append_assoc, length, min, filter, is_some, IsTrue, refl, sym, ap, ◌∙◌, subst, inl, inr, ⊎_elim, arith, and_parts, true≢false, false_from_ne_true, cases_Bool, nil_from_length, IsIn, in_kept, kept_in, is_in, members, names, present, in_names, names_present, Network, State, IsState, Event, Reply, Accepted, Refused, Moves, Shown, EnabledAre, Pairs, Counts, Moved, after_moves, followed, RuleTable, rule_at, enabled_names, Entry, IsLocal, stays_pending, round_turn, rounds_by, rounds_from, rounds_in, RoundCounter, HasCounted, MayFollow, start_after, log_after, pending_names}
+use Rattle.round_counter.proofs.Prelude.{◌≡◌, ℕ, ◌+◌, ◌≤◌, Bool, true, false, cond, not, ◌&&◌, List, [], ◌∷◌, ◌++◌, append_assoc, length, min, filter, is_some, IsTrue, refl, sym, ap, ◌∙◌, subst, inl, inr, ⊎_elim, arith, and_parts, true≢false, false_from_ne_true, cases_Bool, nil_from_length, IsIn, in_kept, kept_in, is_in, members, names, present, in_names, names_present, Network, State, IsState, Event, Reply, Accepted, Refused, Moves, Shown, EnabledAre, Pairs, Counts, Moved, after_moves, followed, RuleTable, rule_at, enabled_names, Entry, IsLocal, stays_pending, round_turn, rounds_by, rounds_from, rounds_in, RoundCounter, HasCounted, CanCount, start_after, log_after, pending_names}
 use Rattle.round_counter.proofs.Bits.{member_in, in_member}
 use Rattle.round_counter.proofs.Serving.{is_served, unserved_stays}
 
@@ -134,7 +134,7 @@ first_member (x ∷ xs) some = (x, inl refl)
 
 -- what the entry does to the counter, if the network and the enabled nodes are these then
 abbrev pub Follows : Network → List Bool → Reply → RoundCounter → RoundCounter → Type 0
-Follows net e reply old new = (t : RuleTable) (start : State) (log : List Entry) (s : State) (event : Event) → IsLocal t → IsState s → IsState (followed s event reply) → net ≡ (followed s event reply).network → members e ≡ enabled_names t (followed s event reply) → MayFollow reply old → HasCounted t start log s old → HasCounted t (start_after start reply (followed s event reply)) (log_after log event reply) (followed s event reply) new
+Follows net e reply old new = (t : RuleTable) (start : State) (log : List Entry) (s : State) (event : Event) → IsLocal t → IsState s → IsState (followed s event reply) → net ≡ (followed s event reply).network → members e ≡ enabled_names t (followed s event reply) → CanCount reply old → HasCounted t start log s old → HasCounted t (start_after start reply (followed s event reply)) (log_after log event reply) (followed s event reply) new
 
 -- a step that leaves none pending
 pub follows_last : (net : Network) (e : List Bool) (reply : Reply) (moves : List Moved) (old new : RoundCounter) → reply ≡ Moves moves → ((u : ℕ) → is_in new.pending u ≡ (is_in old.pending u && not (is_served net e moves u))) → length (members new.pending) ≡ 0 → new.rounds ≡ min (old.rounds + 1) 4294967295 → new.is_new ≡ true → Follows net e reply old new

@@ -33,6 +33,6 @@ pub use Rattle.rule_machine.specs.declared.reply.Reply.{Reply}
 pub use Rattle.rule_machine.specs.declared.reply.Reply.TheVariants.{Accepted, Refused, Moves, Shown, EnabledAre, Pairs, Counts}
 pub use Rattle.rule_machine.specs.Run.{Entry}
 pub use Rattle.rules_api.specs.Target.{SameAt}
-pub use Rattle.round_counter.specs.Counting.{HasCounted, IsLocal, MayFollow, is_step, log_after, pending_names, start_after}
+pub use Rattle.round_counter.specs.Counting.{HasCounted, IsLocal, CanCount, is_step, log_after, pending_names, start_after}
 pub use Rattle.round_counter.specs.declared.counter.RoundCounter.{RoundCounter}
 pub use Rattle.round_counter.specs.Serving.{is_served_by}

@@ -34,8 +34,8 @@ is_step (Moves moves) = true
 is_step reply = false
 
 -- the counter is ready for a reply: before a step it has the pending nodes in its set, and can count further
-abbrev pub MayFollow : Reply → RoundCounter → Type 0
-MayFollow reply c = IsTrue (is_step reply) → (c.is_new ≡ false) × (c.rounds < 4294967295)
+abbrev pub CanCount : Reply → RoundCounter → Type 0
+CanCount reply c = IsTrue (is_step reply) → (c.is_new ≡ false) × (c.rounds < 4294967295)
 
 -- Where counting begins, after an entry with this reply that leads to s: an accepted disturbance begins a new
 -- count.

@@ -27,7 +27,7 @@ impl RoundCounter {
     ghost use Rattle.rule_machine.specs.Run.{Entry};
     ghost use Rattle.rule_machine.specs.State.{State, IsState};
     ghost use Rattle.machine_laws.specs.StatesAfterReplies.{followed};
-    ghost use Rattle.round_counter.specs.Counting.{HasCounted, IsLocal, MayFollow, is_step, start_after, log_after};
+    ghost use Rattle.round_counter.specs.Counting.{HasCounted, IsLocal, CanCount, is_step, start_after, log_after};
 
     /// A counter that begins here, with no complete round. It fits a network of any size.
     /// Takes some nine kilobytes. Error: out of memory.
@@ -72,7 +72,7 @@ impl RoundCounter {
         ensures few { self.new.rounds ≤ self.old.rounds + cond (is_step reply.now) 1 0 }
         ensures counted { (t : RuleTable) (start : State) (log : List Entry) (s : State) (event : Event)
             → IsLocal t → IsState s → IsState (followed s event reply.now) → store.now.network ≡ (followed s event reply.now).network
-            → members enabled.now ≡ enabled_names t (followed s event reply.now) → MayFollow reply.now self.old → HasCounted t start log s self.old
+            → members enabled.now ≡ enabled_names t (followed s event reply.now) → CanCount reply.now self.old → HasCounted t start log s self.old
             → HasCounted t (start_after start reply.now (followed s event reply.now)) (log_after log event reply.now) (followed s event reply.now) self.new }
     {
         match reply {

@@ -1,13 +1,13 @@
 -- A counter of rounds after one more entry.
-use Rattle.step_log.proofs.Prelude.{◌≡◌, ◌≢◌, ℕ, ◌+◌, ◌<◌, ◌≤◌, Bool, false, cond, List, [], ◌∷◌, ◌++◌, length, All-push, Option, None, Some, IsTrue, refl, sym, ap, subst, arith, Moved, Event, Reply, Accepted, Refused, Moves, Shown, EnabledAre, Pairs, Counts, State, IsState, RuleTable, Answers, spent_after, Entry, Moment, Run, IsTable, Does, AnswersBy, refusal_of, Refusal, Step, false≢true, run_add, answers_keep, followed, answer_followed, enabled_names, Network, members, HasCounted, IsLocal, MayFollow, is_step, log_after, start_after, RoundCounter, CountsRun}
+use Rattle.step_log.proofs.Prelude.{◌≡◌, ◌≢◌, ℕ, ◌+◌, ◌<◌, ◌≤◌, Bool, false, cond, List, [], ◌∷◌, ◌++◌, length, All-push, Option, None, Some, IsTrue, refl, sym, ap, subst, arith, Moved, Event, Reply, Accepted, Refused, Moves, Shown, EnabledAre, Pairs, Counts, State, IsState, RuleTable, Answers, spent_after, Entry, Moment, Run, IsTable, Does, AnswersBy, refusal_of, Refusal, Step, false≢true, run_add, answers_keep, followed, answer_followed, enabled_names, Network, members, HasCounted, IsLocal, CanCount, is_step, log_after, start_after, RoundCounter, CountsRun}
 
 -- what the counter says of an entry that led to this state
 abbrev pub CountsTo : RuleTable → State → Event → Reply → State → RoundCounter → RoundCounter → Type 0
-CountsTo t s event reply next old new = (start : State) (log : List Entry) → MayFollow reply old → HasCounted t start log s old → HasCounted t (start_after start reply next) (log_after log event reply) next new
+CountsTo t s event reply next old new = (start : State) (log : List Entry) → CanCount reply old → HasCounted t start log s old → HasCounted t (start_after start reply next) (log_after log event reply) next new
 
 -- the state after an answer is the one that its reply tells
 pub counts_to : (t : RuleTable) → IsTable t → IsLocal t → (net : Network) (e : List Bool) (m : Moment) (event : Event) (reply : Reply) (next : State) (old new : RoundCounter) → IsState m.state → Answers t m.state m.spent event reply next → net ≡ next.network → members e ≡ enabled_names t next
-    → ((t : RuleTable) (start : State) (log : List Entry) (s : State) (event : Event) → IsLocal t → IsState s → IsState (followed s event reply) → net ≡ (followed s event reply).network → members e ≡ enabled_names t (followed s event reply) → MayFollow reply old → HasCounted t start log s old → HasCounted t (start_after start reply (followed s event reply)) (log_after log event reply) (followed s event reply) new)
+    → ((t : RuleTable) (start : State) (log : List Entry) (s : State) (event : Event) → IsLocal t → IsState s → IsState (followed s event reply) → net ≡ (followed s event reply).network → members e ≡ enabled_names t (followed s event reply) → CanCount reply old → HasCounted t start log s old → HasCounted t (start_after start reply (followed s event reply)) (log_after log event reply) (followed s event reply) new)
     → CountsTo t m.state event reply next old new
 counts_to t table local net e m event reply next old new good answers same is clause start log may it =
     subst (λ (u : State). IsState u → net ≡ u.network → members e ≡ enabled_names t u → HasCounted t (start_after start reply u) (log_after log event reply) u new)

@@ -32,7 +32,7 @@ pub use Rattle.machine_laws.proofs.Runs.{runs_end_in_states, run_add, answers_ke
 pub use Rattle.machine_laws.proofs.Sizes.{runs_keep_size}
 pub use Rattle.machine_laws.proofs.UnusedFlags.{IsFlagless}
 pub use Rattle.machine_laws.specs.StatesAfterReplies.{followed}
-pub use Rattle.round_counter.specs.Counting.{HasCounted, IsLocal, MayFollow, is_step, log_after, start_after}
+pub use Rattle.round_counter.specs.Counting.{HasCounted, IsLocal, CanCount, is_step, log_after, start_after}
 pub use Rattle.round_counter.specs.declared.counter.RoundCounter.{RoundCounter}
 pub use Rattle.round_laws.proofs.Counting.{answer_followed}
 pub use Rattle.charge_laws.specs.ChargeWords.{IsUndisturbed}
@@ -64,7 +64,7 @@ pub use Rattle.step_log.specs.Headline.{Upholds, LeadsTo}
 pub use Rattle.step_log.specs.JournalViews.{IsJournal, JournalView, kept_of, undropped_log, IsNextReceipt}
 pub use Rattle.step_log.specs.Log.{empty_log_with, max_entries, Log, IsLog}
 pub use Rattle.step_log.specs.Recording.{Recording, IsRecording}
-pub use Rattle.step_log.specs.Rounds.{CountsRun, CountsRounds, HasRounds, IsReady, IsCountedRecording, moment_of}
+pub use Rattle.step_log.specs.Rounds.{CountsRun, CountsRounds, HasRounds, IsReady, IsCountedRecording, recorded_moment}
 pub use Rattle.step_log.specs.RetainedLogs.{RetainedLog, Begins, moment_in, IsRetainedRun, IsBaseOfGraph, checkpointed, kept_with, last_number, next_entry, whole, log_in}
 pub use Rattle.step_log.specs.declared.epoch.Epoch.{Epoch}
 pub use Rattle.step_log.specs.declared.receipt.Receipt.{Receipt}

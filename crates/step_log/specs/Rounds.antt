@@ -43,10 +43,10 @@ IsReady reply None = Unit {0}
 IsReady reply (Some c) = IsTrue (is_step reply) → c.is_new ≡ false
 
 -- the moment of a recording
-abbrev pub moment_of : Recording → Moment
-moment_of r = record { state = r.state; spent = r.spent }
+abbrev pub recorded_moment : Recording → Moment
+recorded_moment r = record { state = r.state; spent = r.spent }
 
 -- a recording, with a counter that has counted up to it
 pub record IsCountedRecording (t : RuleTable) (r : Recording) (rounds : Option RoundCounter) : Type 0 where
   pub is_recording : IsRecording r
-  pub counts : CountsRounds t (moment_of r) rounds
+  pub counts : CountsRounds t (recorded_moment r) rounds

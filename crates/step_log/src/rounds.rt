@@ -7,7 +7,7 @@ ghost use Rattle.rule_machine.specs.declared.reply.Reply.{Reply};
 ghost use Rattle.rule_machine.specs.Answer.{Answers, spent_after};
 ghost use Rattle.rule_machine.specs.Run.{Moment};
 ghost use Rattle.rule_machine.specs.State.{IsState};
-ghost use Rattle.step_log.specs.Rounds.{CountsRounds, HasRounds, IsReady, moment_of};
+ghost use Rattle.step_log.specs.Rounds.{CountsRounds, HasRounds, IsReady, recorded_moment};
 
 use crate::Recorder;
 use round_counter::RoundCounter;
@@ -30,7 +30,7 @@ impl<R: Rules> Recorder<R> {
     /// The complete rounds since the last accepted disturbance, or since counting began; `None` if rounds are
     /// not counted. Constant time.
     pub fn rounds(&self) -> Option<u32>
-        ensures { IfSome result (λ rounds. HasRounds R.table (moment_of self.now) rounds) }
+        ensures { IfSome result (λ rounds. HasRounds R.table (recorded_moment self.now) rounds) }
     {
         match &self.rounds {
             Some(counter) => Some(counter.rounds()),
