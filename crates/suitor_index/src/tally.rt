@@ -10,7 +10,7 @@ use rule_machine::Node;
 /// How many suitors and open neighbours a node has, the sum of the suitors' names, and the node's pointer.
 ///
 /// `reached` counts the open neighbours that the node's guard asks for. The sum is modulo 65,536: if the
-/// node has one suitor, it is the suitor's name. The pointer is the register's: an edge's change reads it beside the counts.
+/// node has one suitor, it is the suitor's name. The pointer is the register's, for changes of edges.
 #[derive(Clone, Copy)]
 pub(crate) struct Tally {
     pub(crate) suitors: u16,
