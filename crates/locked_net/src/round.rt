@@ -20,7 +20,7 @@ pub(crate) struct RoamConfig<'a, R: Rules, G: Gate> {
     pub turns: u32,
 }
 
-/// The observer sees the log on which the turn is taken.
+/// The observer sees the log of the turn.
 fn take_turn<R: Rules, W: Wait>(
     rt: &W,
     net: &LockedNet<R>,

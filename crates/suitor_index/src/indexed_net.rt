@@ -115,7 +115,7 @@ impl<'a, R: Rules> IndexedNet<'a, R> {
         suitors.tallies[v.place()]
     }
 
-    /// A node's pointer. One look, beside the counts.
+    /// A node's pointer. One look at the counts.
     #[inline(always)]
     pub fn pointer(&self, v: Node) -> Option<Node>
         requires { IsTrue (present self.now.state.network v) }
@@ -124,7 +124,7 @@ impl<'a, R: Rules> IndexedNet<'a, R> {
         self.tally(v).pointer.target()
     }
 
-    /// Whether a node's pointer is null. One look, beside the counts.
+    /// Whether a node's pointer is null. One look at the counts.
     #[inline(always)]
     pub fn has_null(&self, v: Node) -> bool
         requires { IsTrue (present self.now.state.network v) }
@@ -133,7 +133,7 @@ impl<'a, R: Rules> IndexedNet<'a, R> {
         self.tally(v).pointer.is_null()
     }
 
-    /// Whether node `v` points at `w`. One look, beside the counts.
+    /// Whether node `v` points at `w`. One look at the counts.
     #[inline(always)]
     pub fn points(&self, v: Node, w: Node) -> bool
         requires { IsTrue (present self.now.state.network v) }

@@ -2,7 +2,7 @@
 //!
 //! Besides a network (`net_state`) `Suitors` stores three numbers for each node: how many suitors the node has
 //! (neighbours that point at the node), the sum of the suitors' names modulo 65,536, and how many open
-//! neighbours the node's guard asks for. A copy of the node's pointer lies beside them, so that one look reads
+//! neighbours the node's guard asks for. A copy of the node's pointer is with them, so that one look reads
 //! all four. `Suitors` is an `Observer`: each change of the network updates the numbers. `IndexedNet` borrows
 //! both for look-ups. Contracts see the network alone.
 //!
