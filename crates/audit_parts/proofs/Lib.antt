@@ -6,5 +6,5 @@ pub mod CutTranscripts
 pub mod MeetingTexts
 pub mod Damages
 pub mod PartLaws
-mod ContinuedRuns
-mod ShortLines
+pub mod ContinuedRuns
+pub mod ShortLines

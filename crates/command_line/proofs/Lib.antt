@@ -1,5 +1,6 @@
 pub mod OneVerdict
 pub mod Input
+pub mod LongLines
 pub mod MissingEntry
 pub mod Storms
 pub mod ShownText

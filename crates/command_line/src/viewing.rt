@@ -4,13 +4,13 @@ ghost use Rattle.std.specs.Prelude.{◌≡◌, ◌⊎◌, ℕ, List, true, Err, 
 ghost use Rattle.byte_streams.specs.StreamEnds.{IsEnded};
 ghost use Rattle.transcript_view.specs.Views.{IsPicture, IsEpochTable};
 ghost use Rattle.command_line.specs.FaultText.{run_fault_line};
-ghost use Rattle.command_line.specs.ReadTexts.{IsTextOf};
+ghost use Rattle.command_line.specs.ReadTexts.{IsReadEnough};
 ghost use Rattle.command_line.specs.WriterStates.{heard, WritesLine};
 ghost use Rattle.command_line.specs.Status.{IsStatus};
 ghost use Rattle.command_line.specs.ViewEnds.{ShowsRefusal, ShowsText, TellsView, Views, missing_line};
 
 use crate::program::tell;
-use crate::text::{ReadText, read_text};
+use crate::text::read_text;
 use crate::verdict::CheckEnd;
 use crate::verdict_line::{put_number, verdict_line};
 use auditor::AuditFault;
@@ -121,43 +121,42 @@ fn tell_view<Out: Write, Faults: Write>(
     }
 }
 
+// What is read of an input ends inside a line that is too long, or is all of it; the view is that of all of it.
 fn view_picture_of(
     alloc: Global,
-    read: Result<ReadText, InputFault>,
+    read: Result<Vec<u8>, InputFault>,
     entry: Option<u32>,
 ) -> Result<View, InputFault>
-    ensures read { (input : List ℕ) → IfOk read (λ text. IsTextOf input text → IfOk result (IsPicture input entry)) }
+    ensures read { (input : List ℕ) → IfOk read (λ text. IsReadEnough input text.items → IfOk result (IsPicture input entry)) }
     ensures unread { IfErr read (λ fault. result ≡ Err fault) }
     ensures same { IsErrOf result InputFault.Read → IsErrOf read InputFault.Read }
 {
     match read {
-        Ok(ReadText::Whole(bytes)) => match view_picture(alloc, &bytes, entry) {
+        Ok(text) => match view_picture(alloc, &text, entry) {
             Ok(view) => Ok(view),
             Err(_) => Err(InputFault::Memory),
         },
-        Ok(ReadText::Endless) => Ok(View::Refused(AuditFault::BadHeader)),
         Err(fault) => Err(fault),
     }
 }
 
-fn view_epochs_of(alloc: Global, read: Result<ReadText, InputFault>) -> Result<View, InputFault>
-    ensures read { (input : List ℕ) → IfOk read (λ text. IsTextOf input text → IfOk result (IsEpochTable input)) }
+fn view_epochs_of(alloc: Global, read: Result<Vec<u8>, InputFault>) -> Result<View, InputFault>
+    ensures read { (input : List ℕ) → IfOk read (λ text. IsReadEnough input text.items → IfOk result (IsEpochTable input)) }
     ensures unread { IfErr read (λ fault. result ≡ Err fault) }
     ensures same { IsErrOf result InputFault.Read → IsErrOf read InputFault.Read }
 {
     match read {
-        Ok(ReadText::Whole(bytes)) => match view_epochs(alloc, &bytes) {
+        Ok(text) => match view_epochs(alloc, &text) {
             Ok(view) => Ok(view),
             Err(_) => Err(InputFault::Memory),
         },
-        Ok(ReadText::Endless) => Ok(View::Refused(AuditFault::BadHeader)),
         Err(fault) => Err(fault),
     }
 }
 
 /// Writes the picture of the state after an entry, or after the last entry. Returns the exit status.
 ///
-/// Reads to the end, unless the first line is longer than any line of a transcript: that is refused at once.
+/// Reads to the end, or until a line is longer than any line of a transcript: nothing after it is read.
 ///
 /// | Status | When |
 /// |---|---|
@@ -184,7 +183,7 @@ pub fn draw<In: Read, Out: Write, Faults: Write>(
 
 /// Writes the table of the transcript's epochs, and returns the exit status.
 ///
-/// Reads to the end, unless the first line is longer than any line of a transcript: that is refused at once.
+/// Reads to the end, or until a line is longer than any line of a transcript: nothing after it is read.
 ///
 /// | Status | When |
 /// |---|---|

@@ -1,11 +1,13 @@
-use Rattle.std.proofs.Common.{◌≡◌, Ok}
-use Rattle.command_line.proofs.Input.{endless_damaged, endless_shown}
-use Rattle.command_line.specs.declared.text.ReadText.TheVariants.{Endless}
+use Rattle.std.proofs.Common.{◌≡◌, ℕ, List, Ok, subst}
+use Rattle.transcript_view.specs.Views.{IsEpochTable}
+use Rattle.command_line.proofs.Input.{of_read}
+use Rattle.command_line.proofs.LongLines.{table_of_all}
 use Rattle.command_line.proofs.viewing.view_epochs_of.Goals as goal
 
-pub returns-in-Ok-Endless-clause-read : goal.returns-in-Ok-Endless-clause-read
-returns-in-Ok-Endless-clause-read c input =
-    let is = c.in-Ok-Endless.is in
-    let inner = c.in-Ok-Endless.field-0-is in
-    let read : c.args.read ≡ Ok Endless = cc in
-    endless_shown input c.args.read _ read (endless_damaged input)
+pub returns-in-Ok-view_epochs-clause-read : goal.returns-in-Ok-view_epochs-clause-read
+returns-in-Ok-view_epochs-clause-read c input =
+    let text = c.in-Ok.text in
+    let view = c.in-Ok-view_epochs.view in
+    let read : c.args.read ≡ Ok text = cc in
+    let shown = subst (λ (l : List ℕ). IsEpochTable l view) c.deref.ensures.value c.in-Ok-view_epochs.ensures in
+    of_read (λ t. t.items) c.args.read text input (IsEpochTable input view) read (λ enough. table_of_all input text.items view enough shown)
