@@ -71,6 +71,8 @@ def prepare() -> None:
     fill_closed()
     if sys.stderr is None:
         sys.stderr = open(2, "w", closefd=False, encoding=ENCODING, errors="backslashreplace")
+    elif isinstance(sys.stderr, io.TextIOWrapper) and not sys.stderr.isatty():
+        sys.stderr.reconfigure(encoding=ENCODING)
     if sys.stdin is None or not sys.stdin.isatty():
         sys.stdin = io.TextIOWrapper(io.BufferedReader(Input(0, "r", closefd=False)), ENCODING, LETTERS)
     if sys.stdout is None or not sys.stdout.isatty():

@@ -76,6 +76,9 @@ class Locales(Timed):
         self.assertIn("Zoë".encode(), pathlib.Path(folders[1], "picture.dot").read_bytes())
         found = rudekpi(["bursts", "--names", "names", "t"], folders[1], variables)
         self.assertIn("Zoë Đặng".encode(), found.stdout)
+        pathlib.Path(folders[1], "twice").write_text("Đặng\nĐặng\n", encoding="utf-8")
+        wrong = rudekpi(["bursts", "--names", "twice", "t"], folders[1], variables)
+        self.assertEqual(wrong.stderr, "! twice: line 2: the name Đặng is that of line 1\n".encode())
 
     def test_of_ascii(self) -> None:
         self.expect_the_same(ASCII)
