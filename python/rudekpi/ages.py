@@ -17,7 +17,7 @@ from typing import Callable, Deque, Dict, Iterable, Mapping, NamedTuple, Optiona
 from .replies import Name
 
 # how many writes of a node are kept, and how many in all nodes together
-MOST_WRITES, FEWEST_WRITES, ALL_WRITES = 64, 4, 1 << 18
+MOST_WRITES, FEWEST_WRITES, ALL_WRITES = 64, 4, 1 << 17
 # how many older registers of a node are known to have been held
 MOST_OLDER = 256
 # how many writes are kept of all nodes together, as long as no copy is looked up

@@ -12,7 +12,7 @@ from typing import Callable, Iterator, Mapping, Optional, Sequence, Tuple
 
 from .ages import PairAges
 from .library import MOVES
-from .observed_moves import ABANDON, CHOOSING, UPDATE, Observed, is_allowed, moves_of, observed, with_own
+from .observed_moves import CHOOSING, Observed, is_allowed, moves_of, with_own
 from .replies import Name
 from .views import View, star
 
@@ -39,7 +39,7 @@ WORDS = {
 class Finding:
     """What explains a node's moves that broke the rule on what it saw, or all the stale reads of a log.
 
-    `cause` is one of these; the last two are about a system of which only this node's reads are stale.
+    `cause` is one of these; the last two are about a system whose stale reads are all of one node.
 
     - twice: all of them were allowed by the registers before the node's last move, which had the same view.
     - flag: all of them were allowed if the flag had fallen, and some raised it again.

@@ -1,4 +1,4 @@
-"""A line with several moves in the spelling of most writers: each spelling of a move is read once, then looked up."""
+"""Several moves in a line, in the spelling of most writers: each spelling is read once, then looked up."""
 
 from __future__ import annotations
 

@@ -7,7 +7,8 @@ N logs are judged (10,000 by default). A second reading makes a transcript of al
 move by the one rule that writes so, and has it audited. A log passes if both find the same first line, and
 agree that it is no event or that the rules do not allow it. A link that both ends log counts once. A last
 line that is cut does not count. Some logs say what the nodes saw. They are judged by views too, which changes
-no bad line. Some are judged packed, and as two logs with clocks, too. Any other error fails. A log that fails is printed, and the exit status is 1.
+no bad line. Some are judged packed, and as two logs with clocks, too. Any other error fails. A log that fails
+is printed, and the exit status is 1.
 """
 
 from __future__ import annotations

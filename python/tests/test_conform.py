@@ -9,6 +9,7 @@ import json
 import os
 import pathlib
 import pickle
+import re
 import signal
 import subprocess
 import sys
@@ -476,6 +477,50 @@ class Damaged(Timed):
     def test_the_fuzz_sees_a_wrong_verdict(self) -> None:
         with mock.patch.object(log_fuzz, "first_verdict", lambda *_: ("accepted", 0)):
             self.assertGreater(len([*log_fuzz.fuzz(40, 11, self.engine)[1]]), 20)
+
+
+class Page(Timed):
+    """docs/CONFORM.md: what its commands print, and that its Python runs."""
+
+    engines = ("library",)
+
+    def blocks(self, kind: str) -> list[str]:
+        page = pathlib.Path(TOP, "docs", "CONFORM.md").read_text(encoding="utf-8")
+        fences = re.split(r"^```(\w*)\n", page, flags=re.MULTILINE)
+        # text, the word of a block, its lines, and the empty word of its end, by turns
+        return [lines for word, lines in zip(fences[1::4], fences[2::4]) if word == kind]
+
+    def said(self, *words: str, text: str = "") -> str:
+        more = dict(os.environ, PYTHONPATH=os.path.join(TOP, "python"))
+        command = [sys.executable, "-m", "rudekpi", "conform", *words]
+        done = subprocess.run(command, input=text, env=more, capture_output=True, encoding="utf-8")
+        self.assertEqual((done.returncode, done.stderr), (1, ""))
+        return done.stdout
+
+    def test_the_first_log(self) -> None:
+        log, printed, *_ = self.blocks("")
+        self.assertEqual(self.said("--rules", "hh", text=log), printed)
+
+    def test_the_report_on_views(self) -> None:
+        words = ("--mistake", "flag", "--seed", "5", "--events", "3000", "--log", "-")
+        script = os.path.join(TOP, "examples", "stale_nodes.py")
+        log = subprocess.run([sys.executable, script, *words], check=True, capture_output=True, encoding="utf-8")
+        said = self.said("--rules", "manne", "--views", text=log.stdout).splitlines()
+        (report,) = [block for block in self.blocks("") if block.startswith("on what the nodes saw")]
+        for line in report.splitlines():
+            self.assertIn(line, said)
+
+    def test_the_python(self) -> None:
+        (code,) = [block for block in self.blocks("python") if "import" in block]
+        log, folder = self.blocks("")[0], pathlib.Path(self.folder())
+        head, *rest = log.splitlines()
+        rest = [f'{{"clock": {at}, {line[1:]}' for at, line in enumerate(rest)]
+        (folder / "n1.log").write_text("\n".join([head, *rest[::2], ""]), encoding="utf-8")
+        (folder / "n2.log").write_text("\n".join([*rest[1::2], ""]), encoding="utf-8")
+        more = dict(os.environ, PYTHONPATH=os.path.join(TOP, "python"))
+        done = subprocess.run([sys.executable, "-c", code], cwd=folder, env=more, capture_output=True, encoding="utf-8")
+        self.assertEqual((done.returncode, done.stderr), (0, ""))
+        self.assertIn("False {'update': 0, 'marry': 1, 'seduce': 1, 'abandon': 0} 0 0 0 ", done.stdout)
 
 
 class OwnNodes(Timed):
