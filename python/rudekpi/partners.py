@@ -55,11 +55,17 @@ def pair_of(a: int, b: int) -> Pair:
 class PartnerWatch(Watch):
     """A watch that also counts what happens to pairs, in one burst after another.
 
+    A node's time alone may go on while others are disturbed. So in the rounds of this time, `spans`, an edit or
+    a fault does not cut a round off, but may end it.
+
     A change of a pair takes constant time, a `leave` time in proportion to the node's neighbours.
     """
 
     def __init__(self, state: State) -> None:
         super().__init__(state)
+        # how many spans are complete, and the nodes that the current one waits for
+        self.spans = 0
+        self.spanned: set[int] = set()
         self.begin()
 
     def begin(self) -> None:
@@ -99,8 +105,11 @@ class PartnerWatch(Watch):
     def step(self, moves: Iterable[str]) -> None:
         texts, partner = list(moves), self.state.partner
         before = [(node, partner(node)) for node in (int(text.partition(":")[0]) for text in texts)]
-        self.round_of.append(self.rounds + 1)
+        self.round_of.append(self.spans + 1)
+        self.spanned = self.spanned or set(self.enabled)
         super().step(texts)
+        self.spanned.difference_update(node for node, _ in before)
+        self.spans += not self.spanned
         # compared over the whole step: its moves come at once, and two movers may be one pair
         changed = [(node, was, now) for node, was in before if (now := partner(node)) != was]
         for a, b in {pair_of(node, was) for node, was, _ in changed if was is not None}:
@@ -114,10 +123,12 @@ class PartnerWatch(Watch):
         # it changes pairs of its first node only
         node = numbers[0]
         was = self.state.partner(node)
+        was_in_span = bool(self.spanned)
         self.touch(word, numbers)
         if word == "leave":
             self.end_of(node)
         super().edit(word, numbers)
+        self.spans += was_in_span and not self.spanned
         now = self.state.partner(node)
         if was is not None and was != now:
             self.break_pair(node, was)
@@ -125,6 +136,11 @@ class PartnerWatch(Watch):
             self.make_pair(node, now)
         if word == "join":
             self.since[node] = len(self.round_of)
+
+    def look_again(self, nodes: Iterable[int]) -> None:
+        seen = [*nodes]
+        super().look_again(seen)
+        self.spanned.difference_update(node for node in seen if node not in self.enabled)
 
     def touch(self, word: str, numbers: Sequence[int]) -> None:
         """Notes what a disturbance touches: a link, a node, or registers, also those that it clears."""

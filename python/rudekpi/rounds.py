@@ -1,8 +1,9 @@
 """Rounds, steps and moves of a run, counted along its entries, with the enabled nodes after each.
 
 A round is the shortest part of a run such that each node that was enabled at its start moved or stopped being
-enabled: Dolev, "Self-Stabilization", 2000. Rounds are measured here, not proved. The enabled nodes found here
-are compared with those in the machine's own replies.
+enabled: Dolev, "Self-Stabilization", 2000. An edit or a fault cuts it off. So `rules.most_rounds` bounds the
+rounds of each epoch, which is proved of this definition (docs/BOUNDS.md). The enabled nodes found here are
+compared with those in the machine's own replies.
 """
 
 from __future__ import annotations
@@ -102,8 +103,7 @@ class Counts:
 class Watch:
     """A network that is followed through the entries of an accepted transcript, from a state on.
 
-    A round begins with its first step. An edit or a fault may end the round; nodes that the edit or fault
-    enables count from the next round on. After a step the nodes that moved and their neighbours are checked
+    A round begins with its first step. After a step the nodes that moved and their neighbours are checked
     again.
     """
 
@@ -161,14 +161,14 @@ class Watch:
         self.rounds += not self.awaited
 
     def edit(self, word: str, numbers: Sequence[int]) -> None:
-        was_in_round = bool(self.awaited)
         seen = self.seen_by(word, numbers)
         # an edit or a fault changes pairs of its first node only
         self.pairs -= self.is_paired(numbers[0])
         getattr(self.counts, word)(*numbers)
         self.pairs += self.is_paired(numbers[0])
         self.look_again(seen)
-        self.rounds += was_in_round and not self.awaited
+        # it cuts the round off
+        self.awaited = set()
 
     def seen_by(self, word: str, numbers: Sequence[int]) -> set[int]:
         """The nodes whose enabled rule an edit or fault that comes now may change."""

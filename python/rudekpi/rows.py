@@ -22,8 +22,8 @@ class Row:
 
     `charge` is the charge at the beginning, `pairs` the number of pairs at the end. `bound` is that of the
     last `Epoch`. If disturbances come one by one, `charge` also includes the sum of their costs, and `bound`
-    is that of a `Burst`. The moves exceed neither charge nor bound. The rounds are measured; no bound on them
-    is proved: see `rudekpi.rounds`. `seconds` is the time for the whole experiment.
+    is that of a `Burst`. The moves exceed neither charge nor bound, and the rounds after disturbances at
+    once not `rules.most_rounds`. `seconds` is the time for the whole experiment.
 
     `changes` counts the faults that changed a register, None if they were drawn with any value. `digest` is
     that of the graph, empty in a row of an earlier version. `maximum` is the size of a maximum matching at

@@ -38,6 +38,11 @@ def most_moves(rules: str, edges: int, nodes: int) -> int:
     return moves_left(rules, bound(rules, edges, nodes), nodes)
 
 
+def most_rounds(rules: str, nodes: int) -> int:
+    """The most rounds between two disturbances, from any state with this number of nodes."""
+    return nodes if rules == "hh" else nodes + 2 * (nodes // 2)
+
+
 def suitors(state: State, node: int) -> list[int]:
     """The neighbours that point at a node, ascending."""
     return sorted(other for other in state.neighbours[node] if state.pointers.get(other) == node)

@@ -87,15 +87,15 @@ class Rounds(Timed):
         self.assertEqual([watched(lines[: at + 1]).rounds for at in range(2, 8)], [0, 1, 2, 3, 4, 4])
         self.assertEqual(watched(lines).moves, {"update": 2, "marry": 1, "seduce": 2, "abandon": 1})
 
-    def test_an_edit_ends_a_round(self) -> None:
-        # 1-2 and 3-4 are linked, and 1 moves; 2, 3 and 4 are awaited, until their edges are cut
+    def test_an_edit_cuts_a_round_off(self) -> None:
+        # 1-2 and 3-4 are linked, and 1 moves; 2, 3 and 4 are awaited, until an edge is cut
         lines = "matching hh 4|1 link 1 2 = ok|2 link 3 4 = ok|3 step 1 = 1:seduce>2|4 unlink 1 2 = ok".split("|")
         watch = watched(lines)
-        self.assertEqual((watch.rounds, watch.awaited, watch.enabled), (0, {3, 4}, {3, 4}))
-        watch.follow("5 unlink 3 4 = ok")
+        self.assertEqual((watch.rounds, watch.awaited, watch.enabled), (0, set(), {3, 4}))
+        watch.follow("5 step 3 = 3:seduce>4")
+        self.assertEqual((watch.rounds, watch.awaited), (0, {4}))
+        watch.follow("6 step 4 = 4:marry>3")
         self.assertEqual((watch.rounds, watch.is_silent), (1, True))
-        watch.follow("6 link 3 4 = ok")
-        self.assertEqual((watch.rounds, watch.awaited, watch.enabled), (1, set(), {3, 4}))
 
     def test_the_counts_at_each_node(self) -> None:
         """Random events, repeated changes of a hub among them: the counts are those of the rules' own definitions."""

@@ -111,7 +111,7 @@ class ByHand(Timed):
         pair = ["link 1 2 = ok", "point 1 2 = ok", "point 2 1 = ok", "link 4 5 = ok"]
         again = ["point 1 - = ok", "step 1 = 1:marry>2"]
         watch = followed("hh", 5, [*pair, *again, *again])
-        self.assertEqual((watch.round_of, watch.awaited), ([1, 1], {4, 5}))
+        self.assertEqual((watch.round_of, watch.spanned), ([1, 1], {4, 5}))
         self.assertEqual(watch.counted(), PartnerCounts(2, 3, 2, 4, 2, 2, 1, 0))
 
     def test_partners_lost_without_a_disturbance(self) -> None:
@@ -199,7 +199,7 @@ class BesideStates(Timed):
                 self.assertEqual((found.broken, found.remade), (recount.broken, recount.remade))
                 self.assertEqual((found.steps_alone, found.most_steps_alone), (sum(alone), max(alone)))
                 self.assertGreater(min(found.broken, found.remade_same, found.rounds_alone), 0)
-                self.assertLessEqual(found.most_rounds_alone, min(found.most_steps_alone, watch.rounds + 1))
+                self.assertLessEqual(found.most_rounds_alone, min(found.most_steps_alone, watch.spans + 1))
                 self.assertEqual(found.lost_untouched, 0)
 
     def act(self, net: Network, chance: random.Random) -> None:

@@ -88,7 +88,7 @@ class Rows(Timed):
                 self.assertTrue(0 <= row.moves <= row.charge <= row.bound == 2 * row.m + 3 * row.n)
                 self.assertTrue(row.steps <= row.moves and row.seconds > 0 and row.rules == "manne")
                 self.assertEqual(row.update + row.marry + row.seduce + row.abandon, row.moves)
-                self.assertTrue(min(1, row.steps) <= row.rounds <= row.steps)
+                self.assertTrue(min(1, row.steps) <= row.rounds <= min(row.steps, row.n + 2 * (row.n // 2)))
                 if row.daemon == "synchronous":
                     # all enabled nodes move
                     self.assertEqual(row.rounds, row.steps)
