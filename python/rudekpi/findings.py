@@ -30,8 +30,8 @@ WORDS = {
     SKIPPED: "it goes on without clearing its flag",
     UNLOGGED: "some of its moves have no line",
     BELOW: "it seduces neighbours below it",
-    UNLOCKED: "it writes after it has returned its locks, while others hold its lock",
-    EARLY: "it chooses before it has its locks, or writes after it has returned them",
+    UNLOCKED: "only its reads, and reads of it, are stale: it writes after it has returned its locks",
+    EARLY: "only its reads are stale: it chooses before it has its locks, or writes after it has returned them",
 }
 
 
@@ -91,8 +91,9 @@ class Evidence:
             return f"{WORDS[cause]}, or {WORDS[UNLOGGED]}"
         if cause != GUARD:
             return WORDS[cause]
-        rule = self.rules.most_common(1)[0][0]
-        return f"the guard of {MOVES[rule]} is wrong" if rule else "it writes what no rule writes"
+        if not self.rules:
+            return "it writes what no rule writes"
+        return f"the guard of {MOVES[self.rules.most_common(1)[0][0]]} is wrong"
 
 
 class Findings:
@@ -106,7 +107,7 @@ class Findings:
         """Notes a move that broke the rule on its view."""
         found = self.evidence.setdefault(did.node, Evidence())
         found.wrong += 1
-        found.rules[did.rule or CHOOSING[is_seduction(did, view)]] += did.rule >= 0
+        found.rules.update([did.rule or CHOOSING[is_seduction(did, view)]] if did.rule >= 0 else [])
         is_twice = self.is_twice(did, view, last)
         found.twice += is_twice
         found.at_once += bool(is_twice and last and is_at_once(line, time, last))

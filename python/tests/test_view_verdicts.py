@@ -376,6 +376,24 @@ class Counts(Timed):
         found = conform([*log, move("a", {"b": ["a", True]}, flag=False), saw], "manne", views=True)
         self.assertEqual((found.ages[0].unknown, found.ages[0].lines), (2, None))
 
+    def test_a_long_log_without_views_keeps_its_latest_writes(self) -> None:
+        past = Histories(4, age=100)
+        for line in range(2, 60_000):
+            past.write(line, None, 1 + line % 3, line % 50, False, ((line - 3) % 50, False))
+            if line % 1000 == 0:
+                past.shorten(is_read=False)
+        self.assertLess(len(past.latest), 20_000)
+        self.assertEqual(past.at(1, 59_990), (59_988 % 50, False))
+        self.assertEqual((past.at(4, 59_990), past.may_be_older(4, 1, True)), (None, True))
+        begun, ended = past.last(1, 50, True) or (None, None)
+        self.assertEqual((begun, ended), (None, None))
+        # the guess is that of the short log
+        log = [*HEAD, *['{"fault": "b", "pointer": "a"}', '{"fault": "b", "pointer": null}'] * 20_000]
+        log += ['{"fault": "b", "pointer": "a"}', '{"move": "c", "pointer": "b"}']
+        found = conform("\n".join(log), "hh").first
+        assert found is not None
+        self.assertIn("with what b held before line 40005 it was allowed", found.hint)
+
 
 class Command(Timed):
     def said(self, *words: str, log: list[str], status: int) -> str:
@@ -496,11 +514,14 @@ class StaleNodes(Timed):
         found = conform(lost, "manne", views=True).findings
         text = "its flag falls without a line, or some of its moves have no line"
         self.assertEqual(found, (Finding("b", "flag", 1, text),))
+        both = [*HEAD, move("b", {"a": NULL, "c": NULL}, pointer="c", flag=True)]
+        found = conform(both, "manne", views=True).findings
+        self.assertEqual(found, (Finding("b", "guard", 1, "it writes what no rule writes"),))
 
     def test_writes_after_unlocking(self) -> None:
         """own_nodes: right on what it saw, which was stale; so no node broke a rule."""
         path = pathlib.Path(self.folder(), "log")
-        text = "it writes after it has returned its locks, while others hold its lock"
+        text = "only its reads, and reads of it, are stale: it writes after it has returned its locks"
         for seed in ("2", "3", "4"):
             words = ("--saw", "--mistake", "late", "--events", "1500", "--seed", seed, "--log", str(path))
             script = os.path.join(TOP, "examples", "own_nodes.py")
