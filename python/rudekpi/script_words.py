@@ -8,7 +8,7 @@ from typing import Iterator, Optional
 
 from .numbers import MOST_NODES, MOST_SEED, MOST_TURNS
 
-LONGEST_LINE = 1_048_576
+LONGEST_LINE, MOST_ITEMS = 1_048_576, 65_535
 NUMERAL = re.compile(r"0|[1-9][0-9]*")
 NODE, NULLABLE, BIT, SEED, TURNS, ITEM = (
     "a node",
@@ -69,6 +69,8 @@ def why_no_command(line: bytes) -> Optional[str]:
         return why_unknown(word)
     wanted = COMMANDS[word]
     if word == "step":
+        if len(rest) > MOST_ITEMS:
+            return f"a step has at most {MOST_ITEMS} items"
         wanted = (ITEM,) * len(rest)
     if len(rest) != len(wanted):
         if any("," in text for text in (word, *rest)):
@@ -79,7 +81,7 @@ def why_no_command(line: bytes) -> Optional[str]:
 
 def why_not_plain(line: bytes) -> Optional[str]:
     if len(line) > LONGEST_LINE:
-        return f"the line has {len(line)} bytes, and {LONGEST_LINE} are the most"
+        return f"a line has at most {LONGEST_LINE} bytes"
     if line.startswith(b"\xef\xbb\xbf"):
         return "the line begins with a byte order mark (BOM): save the file as UTF-8 without one, or as ASCII"
     if line.startswith((b"\xff\xfe", b"\xfe\xff")):
@@ -124,7 +126,7 @@ def why_no_word(text: str, kind: str) -> Optional[str]:
             return f"`{text[:40]}` is not A>B, a node that moves and its target"
         return next((why for part in parts if (why := why_no_word(part, NODE))), None)
     if text.isdigit() and text.isascii() and not NUMERAL.fullmatch(text):
-        return f"`{text[:40]}` has leading zeros: `{text.lstrip('0') or '0'}`"
+        return f"`{text[:40]}` has leading zeros: `{text.lstrip('0')[:40] or '0'}`"
     if kind == BIT:
         return None if text in ("0", "1") else f"`{text[:40]}` is not 0 or 1"
     least, most = LIMITS[kind]

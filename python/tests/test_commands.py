@@ -464,8 +464,11 @@ class Lines(Timed):
             ("status 1", "takes nothing, and not 1 word"),
             ("link -1 2", "not a node"),
             ("link 1,2", "a comma"),
+            ("step" + " 1" * 65_536, "a step has at most 65535 items"),
+            ("show 1" + " " * 1_048_571, "a line has at most 1048576 bytes"),
+            ("show 0" + "1" * 60, f"zeros: `{'1' * 40}`\n"),
         ]:
-            with self.subTest(line):
+            with self.subTest(line[:80]):
                 path = pathlib.Path(self.folder(), "script")
                 path.write_bytes(f"status\n\n{line}\nstatus\n".encode())
                 done = rudekpi("check", str(path))

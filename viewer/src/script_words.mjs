@@ -1,6 +1,7 @@
 // Why a line of a script is no command, in the words of the Python client's `check`.
 
 export const LONGEST_LINE = 1_048_576;
+const MOST_ITEMS = 65_535;
 const LONGEST_QUOTED = 40;
 // longer numerals are compared by their length alone
 const LONGEST_NUMERAL = 24;
@@ -75,6 +76,9 @@ export function whyNoCommand(line) {
   if (!COMMANDS.has(word)) {
     return whyUnknown(word);
   }
+  if (word === "step" && rest.length > MOST_ITEMS) {
+    return `a step has at most ${MOST_ITEMS} items`;
+  }
   const wanted = word === "step" ? rest.map(() => ITEM) : COMMANDS.get(word);
   if (rest.length === wanted.length) {
     return firstOf(rest.map((text, at) => whyNoWord(text, wanted[at])));
@@ -99,7 +103,7 @@ function textOf(line) {
 /** @param {Uint8Array} line */
 function whyNotPlain(line) {
   if (line.length > LONGEST_LINE) {
-    return `the line has ${line.length} bytes, and ${LONGEST_LINE} are the most`;
+    return `a line has at most ${LONGEST_LINE} bytes`;
   }
   if (begins(line, [0xef, 0xbb, 0xbf])) {
     return "the line begins with a byte order mark (BOM): save the file as UTF-8 without one, or as ASCII";
@@ -165,7 +169,7 @@ function whyNoWord(text, kind) {
                               firstOf(parts.map((part) => whyNoWord(part, NODE)));
   }
   if (/^[0-9]+$/.test(text) && !NUMERAL.test(text)) {
-    return `\`${cut(text)}\` has leading zeros: \`${text.replace(/^0+/, "") || "0"}\``;
+    return `\`${cut(text)}\` has leading zeros: \`${cut(text.replace(/^0+/, "")) || "0"}\``;
   }
   if (kind === BIT) {
     return text === "0" || text === "1" ? null : `\`${cut(text)}\` is not 0 or 1`;

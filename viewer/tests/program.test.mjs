@@ -143,19 +143,54 @@ test("a run goes on from a file, and audits judge files", { skip }, () => {
 test("the reasons for lines that are no commands are the Python client's", { skip: noPython }, () => {
   const next = drawn(7);
   const pieces = [
-    "link",         "lnk",         "unlink", "Step",    "step",
-    "point",        "flag",        "drive",  "matchin", "quit",
-    "save",         "constructor", "shw",    "1",       "02",
-    "65536",        "99999",       "-",      "0",       "18446744073709551616",
-    "1>2",          "1>2>3",       "x",      "",        " ",
-    "\t",           "\r",          ",",      "#",       "//",
-    "\xef\xbb\xbf", "\xff\xfe",    "\x00",   "\xe9",    "1000001",
-    "checkpoints",  "scrambel",    "0x1",    "+1",      "00",
-    "1".repeat(30), "a".repeat(90)
+    "link",
+    "lnk",
+    "unlink",
+    "Step",
+    "step",
+    "point",
+    "flag",
+    "drive",
+    "matchin",
+    "quit",
+    "save",
+    "constructor",
+    "shw",
+    "1",
+    "02",
+    "65536",
+    "99999",
+    "-",
+    "0",
+    "18446744073709551616",
+    "1>2",
+    "1>2>3",
+    "x",
+    "",
+    " ",
+    "\t",
+    "\r",
+    ",",
+    "#",
+    "//",
+    "\xef\xbb\xbf",
+    "\xff\xfe",
+    "\x00",
+    "\xe9",
+    "1000001",
+    "checkpoints",
+    "scrambel",
+    "0x1",
+    "+1",
+    "00",
+    "1".repeat(30),
+    "a".repeat(90),
+    "0".repeat(20) + "1".repeat(50)
   ];
   const lines = Array.from(
     { length: 3000 },
     () => Array.from({ length: 1 + next(4) }, () => pieces[next(pieces.length)]).join(next(5) === 0 ? "" : " "));
+  lines.push(`step${" 1".repeat(65_535)}`, `step${" 1".repeat(65_536)}`, `show 1${" ".repeat(1_048_571)}`);
   const code = "import sys\nfrom rudekpi.script_words import why_no_command\n" +
     "for line in sys.stdin.buffer.read().split(b'\\n'):\n    print(why_no_command(line))\n";
   const { stdout, status } = spawnSync(
