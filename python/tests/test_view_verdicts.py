@@ -495,8 +495,11 @@ class StaleNodes(Timed):
         for rules, mistake in cases:
             for seed in self.seeds:
                 with self.subTest(mistake, rules=rules, seed=seed):
-                    for events in (300, 1000, 3000, 10000):
-                        found, told = self.told(rules, mistake, seed, events)
+                    net = STALE_NODES.Net(rules, seed, mistake, 0)
+                    # the same log goes on until it tells enough
+                    for net.events in (300, 1000, 3000, 10000):
+                        told: list[Divergence] = []
+                        found = conform(net.run(), rules, views=True, on_divergence=told.append)
                         if len(told) >= FEW:
                             break
                     assert found.first is not None
