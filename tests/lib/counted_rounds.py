@@ -10,6 +10,8 @@ sys.path.insert(0, str(TOP / "python"))
 from rudekpi import rules  # noqa: E402
 from rudekpi.state import State  # noqa: E402
 
+__all__ = ["Rounds", "State", "most"]
+
 
 def most(rules_number: int, nodes: int) -> int:
     """The most rounds between two disturbances, by docs/BOUNDS.md."""
