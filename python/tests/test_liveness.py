@@ -219,7 +219,7 @@ def acted(net: Network, word: str, a: int, b: int, flags: set[int]) -> str:
 
 class Dead(Timed):
     def test_a_dead_node_is_named(self) -> None:
-        for seed in range(10):
+        for seed in range(20):
             dead = random.Random(seed).randrange(1, 11)
             lines = simulated(dead, seed)
             with self.subTest(seed=seed, dead=dead):
@@ -233,7 +233,7 @@ class Dead(Timed):
                 self.assertGreaterEqual(last.line, found.waiting[0].line)
 
     def test_none_is_named_if_all_live(self) -> None:
-        for seed in range(10):
+        for seed in range(20):
             found = conform(simulated(0, seed), "manne", stuck=60)
             self.assertEqual((found.stuck, found.waiting), (0, ()))
 
