@@ -36,7 +36,8 @@ enum {
     RUDEKPI_REFUSED = 6,      /* the machine refused the event, and an entry says so; the network is unchanged */
     RUDEKPI_DAMAGED = 7,      /* the bytes are no transcript; those fed to an audit, whatever follows */
     RUDEKPI_NOT_SILENT = 8,   /* a rule is enabled, and the call needs a silent network; nothing changed */
-    RUDEKPI_NOT_SHOWN = 9     /* no state of the machine shows what a node holds */
+    RUDEKPI_NOT_SHOWN = 9,    /* no state of the machine shows what a node holds */
+    RUDEKPI_NOT_COUNTED = 10  /* rounds are not counted */
 };
 
 /* The rule sets: Hsu and Huang (1992), one enabled node moves at a time; Manne, Mjelde, Pilard and Tixeuil
@@ -223,7 +224,7 @@ uint32_t rudekpi_transcript(struct rudekpi_slot *slot, bool keeps);
  * and edges. */
 uint32_t rudekpi_session_renumber(struct rudekpi_slot *slot, size_t *ended);
 
-/* The calls from here to rudekpi_moves_left only ask: they change nothing in the network and add no entry.
+/* The calls from here to rudekpi_rounds_left only ask: they change nothing in the network and add no entry.
  * They return BAD_ARGUMENT for a name that is 0 or above 65,535; only a target may be 0, for null. The result
  * is written in each case: 0 or false if the status is not DONE.
  *
@@ -314,6 +315,23 @@ uint32_t rudekpi_edges(struct rudekpi_slot *slot, struct rudekpi_row *out, size_
  * among n nodes, the half rounded down. Looks at what has changed since the last such call or `status`.
  * DONE; NO_SESSION. */
 uint32_t rudekpi_moves_left(struct rudekpi_slot *slot, uint32_t *moves);
+
+/* Counts rounds from here on, or from here anew. A round is the shortest part of a run after which each node
+ * that was enabled at its start has moved, or was not enabled in some state since. From then on a step costs
+ * a look or two more at each neighbour of a mover, and a round a few looks at each node enabled at its start.
+ * Takes some nine kilobytes. A resumed session counts no rounds before this call; renumbering changes no count.
+ * DONE; NO_MEMORY: nothing changed; NO_SESSION. */
+uint32_t rudekpi_count_rounds(struct rudekpi_slot *slot);
+
+/* Writes how many rounds are complete since the last accepted edit or fault, or since counting began. Constant
+ * time. DONE; NOT_COUNTED; NO_SESSION. */
+uint32_t rudekpi_rounds(struct rudekpi_slot *slot, uint32_t *rounds);
+
+/* Writes how many rounds can still be completed before the next accepted edit or fault, whatever the daemon
+ * chooses: 0 if no rule is enabled, and at most what rudekpi_moves_left writes. Of n nodes, those complete and
+ * those left are together at most n under RUDEKPI_HSU_HUANG, and 2n under RUDEKPI_MANNE, or 2n - 1 if n is odd.
+ * Costs what rudekpi_moves_left costs. DONE; NOT_COUNTED; NO_SESSION. */
+uint32_t rudekpi_rounds_left(struct rudekpi_slot *slot, uint32_t *left);
 
 /* The verdict of an audit. */
 struct rudekpi_verdict {
@@ -425,7 +443,7 @@ uint32_t rudekpi_may_move(uint32_t rules, const struct rudekpi_record *own, cons
 static inline const char *rudekpi_status_text(uint32_t status) {
     static const char *const texts[] = {"done",       "not a command", "the log is full", "memory was refused",
                                         "no session", "bad argument",  "refused",         "no transcript",
-                                        "not silent", "shown by no state"};
+                                        "not silent", "shown by no state", "not counted"};
     return status < sizeof texts / sizeof *texts ? texts[status] : "unknown";
 }
 
