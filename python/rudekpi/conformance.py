@@ -454,7 +454,7 @@ class LogJudge:
                 self.last_seen[it.node] = number, it, view, self.time
 
     def moves_unseen(self, number: int, seen: Sequence[Observed]) -> None:
-        """Several moves at once, none of which says what its node saw."""
+        """Several moves at once, without what their nodes saw."""
         refusal, made = self.asked_at_once(number, seen)
         if not made:
             return self.settle(number, [Judged(it, None, 0) for it in seen], refusal, made)
