@@ -93,7 +93,7 @@ size_t rudekpi_session_length(struct rudekpi_slot *slot);
  * changes nothing. Returns the length of the text, which was copied if its length is at most `room`.
  * All that was read of a session that kept its text from the start, in order, with what is unread, is a
  * transcript at any time: an audit accepts it. After rudekpi_session_resume so is the resumed transcript with
- * all of this appended. Both are proved call by call (`sessions_stay_transcripts` in crates/written_text) until
+ * all of this appended. Both are proved call by call (`sessions_stay_transcripts` in crates/command_line) until
  * rudekpi_session_renumber, and tested of what comes after it. */
 size_t rudekpi_session_read(struct rudekpi_slot *slot, uint8_t *out, size_t room);
 

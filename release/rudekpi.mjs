@@ -108,8 +108,10 @@ return { StreamFault, Source, writeAll };
 modules["rudekpi/errors"] = (() => {
 // The errors that the module throws, besides `RangeError` and `TypeError`. rudekpi.d.ts documents them.
 
-const STATUSES =
-  ["done", "not a command", "the log is full", "memory was refused", "there is no session", "out of range"];
+const STATUSES = [
+  "done", "not a command", "the log is full", "memory was refused", "there is no session", "out of range", "refused",
+  "no transcript", "not silent", "shown by no state", "rounds are not counted"
+];
 
 class RudekpiError extends Error {
   /** @param {string} said */
@@ -160,6 +162,12 @@ class NoReply extends MemoryError {
   }
 }
 
+class NotCounted extends RudekpiError {
+  constructor() {
+    super("rounds are not counted: call countRounds first");
+  }
+}
+
 class Damaged extends RudekpiError {
   /**
    * @param {number} line
@@ -196,7 +204,7 @@ class EngineFault extends RudekpiError {
   }
 }
 
-return { RudekpiError, Refused, Ended, MemoryError, NoReply, Damaged, BadView, EngineFault };
+return { RudekpiError, Refused, Ended, MemoryError, NoReply, NotCounted, Damaged, BadView, EngineFault };
 })();
 
 modules["rudekpi/engine"] = (() => {
@@ -217,6 +225,7 @@ const NO_SESSION = 4;
 const REFUSED = 6;
 const DAMAGED = 7;
 const NOT_SILENT = 8;
+const NOT_COUNTED = 10;
 
 /** The rule sets, by the numbers that the calls take. */
 const RULE_SET_NAMES = ["hh", "manne"];
@@ -555,6 +564,23 @@ class Session {
     return this.engine.entry;
   }
 
+  /** Counts rounds from here on. Throws `EngineFault` if memory runs out. */
+  countRounds() {
+    this.hear(this.calls.rudekpi_count_rounds(this.slot));
+  }
+
+  /** How many rounds are complete since the last edit or fault, or since counting began. */
+  rounds() {
+    this.hear(this.calls.rudekpi_rounds(this.slot, this.engine.told));
+    return this.engine.entry;
+  }
+
+  /** The most rounds that can come before the next edit or fault, 0 in silence. */
+  roundsLeft() {
+    this.hear(this.calls.rudekpi_rounds_left(this.slot, this.engine.told));
+    return this.engine.entry;
+  }
+
   /**
    * None if the event would be refused.
    * @param {string} line of a script
@@ -572,7 +598,7 @@ class Session {
   }
 }
 
-return { DONE, BAD_LINE, LOG_FULL, NO_MEMORY, NO_SESSION, REFUSED, DAMAGED, NOT_SILENT, RULE_SET_NAMES, SLOT_BYTES, ROW_WORDS, canRun, Engine, inUse, Session };
+return { DONE, BAD_LINE, LOG_FULL, NO_MEMORY, NO_SESSION, REFUSED, DAMAGED, NOT_SILENT, NOT_COUNTED, RULE_SET_NAMES, SLOT_BYTES, ROW_WORDS, canRun, Engine, inUse, Session };
 })();
 
 modules["rudekpi/names"] = (() => {
@@ -2584,8 +2610,8 @@ modules["rudekpi/network"] = (() => {
 const {readBase} = modules["transcript"];
 const {bytesOf, summaryOf} = modules["rudekpi/audits"];
 const {numbersOfEdit, whyRefused} = modules["rudekpi/costs"];
-const {DONE, Engine, inUse, LOG_FULL, NO_MEMORY, NO_SESSION, NOT_SILENT, REFUSED, ROW_WORDS, RULE_SET_NAMES, Session} = modules["rudekpi/engine"];
-const {Ended, EngineFault, MemoryError, NoReply, Refused} = modules["rudekpi/errors"];
+const {DONE, Engine, inUse, LOG_FULL, NO_MEMORY, NO_SESSION, NOT_COUNTED, NOT_SILENT, REFUSED, ROW_WORDS, RULE_SET_NAMES, Session} = modules["rudekpi/engine"];
+const {Ended, EngineFault, MemoryError, NoReply, NotCounted, Refused} = modules["rudekpi/errors"];
 const {MOST_NODES, MOST_TURNS, Names, numberWithin, seedOf, shown} = modules["rudekpi/names"];
 const {baseOf, enabledOfRows, faultOfLine, listWith, matchingOfRows, movesOfLine, movesOfRows, REFUSALS, Wish} = modules["rudekpi/replies"];
 const {resumed} = modules["rudekpi/resumption"];
@@ -2962,6 +2988,20 @@ class Network {
     return this.#engine.entry;
   }
 
+  countRounds() {
+    this.#asked(this.#calls.rudekpi_count_rounds(this.#slot));
+  }
+
+  rounds() {
+    this.#asked(this.#calls.rudekpi_rounds(this.#slot, this.#told));
+    return this.#engine.entry;
+  }
+
+  roundsLeft() {
+    this.#asked(this.#calls.rudekpi_rounds_left(this.#slot, this.#told));
+    return this.#engine.entry;
+  }
+
   get present() {
     return this.#named(this.#listed(this.#calls.rudekpi_nodes));
   }
@@ -3065,6 +3105,9 @@ class Network {
     }
     if (status === NO_SESSION) {
       throw this.#ended ?? new TypeError("the network is closed");
+    }
+    if (status === NOT_COUNTED) {
+      throw new NotCounted();
     }
     if (status === NO_MEMORY) {
       throw new MemoryError("the command was not carried out, and the network is as it was");
@@ -3214,7 +3257,7 @@ modules["rudekpi/engine"].inUse.engine = await modules["rudekpi/engine"].Engine.
 // Rudekpi as a module for JavaScript: networks and audits, run by the engine inside. Types: rudekpi.d.ts.
 const {isProgram, runProgram} = modules["program/program"];
 const {Audit, audit} = modules["rudekpi/audits"];
-const {BadView, Damaged, Ended, MemoryError, NoReply, Refused, RudekpiError} = modules["rudekpi/errors"];
+const {BadView, Damaged, Ended, MemoryError, NoReply, NotCounted, Refused, RudekpiError} = modules["rudekpi/errors"];
 const {localRule, mayMove} = modules["rudekpi/local_rule"];
 const {Network} = modules["rudekpi/network"];
 const {Matching, Wish} = modules["rudekpi/replies"];
@@ -3232,6 +3275,7 @@ export {
   MemoryError,
   Network,
   NoReply,
+  NotCounted,
   Refused,
   RudekpiError,
   version,

@@ -25,8 +25,8 @@ _rudekpi_flags() {
         *,picture) _rudekpi_words --entry --help ;;
         *,epochs) _rudekpi_words --help ;;
         *,storm) _rudekpi_words --rules --nodes --present --workers --from --roam --turns --help ;;
-        *,sweep) _rudekpi_words --graph --undirected --rules --daemon --seeds --first-seed --faults --registers --any-value --joins --leaves --cut --add --rewire --move --every --trace --racks --csv --resume --force --maximum --partners --plot --processes --dask --program --help ;;
-        *,compare) _rudekpi_words --graph --undirected --rules --daemon --seeds --first-seed --faults --registers --any-value --joins --leaves --cut --add --rewire --move --every --trace --racks --csv --resume --force --maximum --partners --plot --processes --dask --program --markdown --help ;;
+        *,sweep) _rudekpi_words --graph --undirected --rules --daemon --seeds --first-seed --faults --registers --any-value --joins --leaves --cut --add --rewire --move --every --trace --racks --csv --resume --force --maximum --partners --plot --plotted --processes --dask --program --help ;;
+        *,compare) _rudekpi_words --graph --undirected --rules --daemon --seeds --first-seed --faults --registers --any-value --joins --leaves --cut --add --rewire --move --every --trace --racks --csv --resume --force --maximum --partners --plot --plotted --processes --dask --program --markdown --help ;;
         *,worst) _rudekpi_words --graph --undirected --rules --seconds --seed --transcript --output --program --help ;;
         *,check) _rudekpi_words --help ;;
         *,shell) _rudekpi_words --rules --nodes --present --program --help ;;
@@ -77,6 +77,7 @@ _rudekpi() {
         --from | --graph | --trace | --racks | --csv | --plot | --program | --output | --names | --ages | --page) _rudekpi_files ;;
         --daemon) _rudekpi_words synchronous least greatest age seeded greedy helpful local ;;
         --registers) _rudekpi_words any pointer flag ;;
+        --plotted) _rudekpi_words moves rounds ;;
         *)
             case $command,$word in
                 ,*) _rudekpi_words "$(_rudekpi_all)" help --help --version ;;

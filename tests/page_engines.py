@@ -23,7 +23,7 @@ from webkit import WebKit, why_no_webkit
 AnyBrowser = Union[Browser, Firefox, WebKit]
 
 MODULE = os.path.join(os.path.dirname(PLAYGROUND), "rudekpi.mjs")
-MENDED = re.compile(r"is cut\. Mended in \d+ moves?; at most \d+ could have come\.$")
+MENDED = re.compile(r"is cut\. Mended in \d+ moves? and \d+ rounds?; at most \d+ and \d+ could have come\.$")
 # the module's commands, and equivalent lines of a script
 COMMANDS = """\
 import {Network, audit, Damaged} from "./rudekpi.mjs";

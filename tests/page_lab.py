@@ -134,7 +134,10 @@ def opens(pages: Pages, browser: Browser) -> None:
     browser.click(*edge(browser, *pair))
     pages.expect("the cut is a line", last_act(browser, f"unlink {pair[0]} {pair[1]}"), f"unlink {pair[0]} {pair[1]}")
     pages.expect("it mends by itself", settles(browser), True)
-    told = re.search(r"is cut\. Mended in \d+ moves?; at most \d+ could have come\.$", browser.ask("text", "#story"))
+    told = re.search(
+        r"is cut\. Mended in \d+ moves? and \d+ rounds?; at most \d+ and \d+ could have come\.$",
+        browser.ask("text", "#story"),
+    )
     pages.expect("and the page tells of that", bool(told), True)
     pages.expect("the title", browser.ask("title"), TITLE)
     pages.expect("what the page fetches", browser.fetched, [f"file://{PLAYGROUND}"])

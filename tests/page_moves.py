@@ -1,4 +1,4 @@
-"""Tests the playground's counts of moves, and its daemons that let several nodes move at once."""
+"""Tests the playground's counts of moves and rounds, and its daemons that let several nodes move at once."""
 
 from __future__ import annotations
 
@@ -10,17 +10,18 @@ import sys
 
 from browser import Browser
 from page_hands import waited
-from page_lab import TOP, agrees, fresh, place, settles, transcript
+from page_lab import TOP, agrees, begin, fresh, place, settles, transcript
 from page_runs import Pages
 
-MENDED = re.compile(r"(\d[\d,]*) moves?[;,]")
+MENDED = re.compile(r"(\d[\d,]*) moves? and (\d[\d,]*) rounds?[;,]")
+ROUNDS = re.compile(r"([\d,]+) rounds?, (?:silent|at most ([\d,]+) to come); bound ([\d,]+)$")
 STEP = re.compile(r"^\d+ step ([\d ]+) = ", re.MULTILINE)
 LINK = re.compile(r"^\d+ link (\d+) (\d+) = ok$", re.MULTILINE)
 SCRAMBLED = "20"
 
 
-def last_burst(pages: Pages, text: bytes) -> int:
-    """The moves of a transcript's last burst, as the Python client counts them."""
+def last_burst(pages: Pages, text: bytes) -> tuple[int, int]:
+    """The moves and rounds of a transcript's last burst, as the Python client counts them."""
     path = os.path.join(pages.folder, "burst.transcript")
     with open(path, "wb") as file:
         file.write(text)
@@ -28,7 +29,7 @@ def last_burst(pages: Pages, text: bytes) -> int:
     env = {**os.environ, "PYTHONPATH": f"{TOP}/python"}
     told = subprocess.run(words, env=env, stdin=subprocess.DEVNULL, capture_output=True, encoding="utf-8", check=True)
     *_, row = csv.DictReader(told.stdout.splitlines())
-    return int(row["moves"])
+    return int(row["moves"]), int(row["rounds"])
 
 
 def scrambled(browser: Browser, rules: str, daemon: str) -> None:
@@ -43,29 +44,70 @@ def scrambled(browser: Browser, rules: str, daemon: str) -> None:
     browser.click(*place(browser, "#run"))
 
 
-def headline(browser: Browser) -> list[int]:
-    return [int(word.replace(",", "")) for word in MENDED.findall(browser.ask("text", "#story"))]
+def headline(browser: Browser) -> list[tuple[int, int]]:
+    """The moves and rounds of each network."""
+    found = MENDED.findall(browser.ask("text", "#story"))
+    return [(int(moves.replace(",", "")), int(rounds.replace(",", ""))) for moves, rounds in found]
+
+
+def told_rounds(browser: Browser) -> tuple[int, int, int]:
+    """The complete rounds of the shown network, those that can come, and their bound."""
+    words = ROUNDS.search(browser.ask("text", ".meter .rounds"))
+    assert words is not None, browser.ask("text", ".meter .rounds")
+    rounds, left, bound = (int((word or "0").replace(",", "")) for word in words.groups())
+    return rounds, left, bound
+
+
+def marks(browser: Browser) -> int:
+    return str(browser.ask("attribute", ".trace .round", "d") or "").count("M")
 
 
 def counts(pages: Pages, browser: Browser) -> None:
-    """Headline, bar and `bursts` count the same moves, of each network."""
+    """Headline, bar and `bursts` count the same moves and rounds, of each network."""
     for daemon in ("all", "local", "chance", "seeded"):
         scrambled(browser, "manne", daemon)
-        moves = last_burst(pages, transcript(browser))
+        moves, rounds = last_burst(pages, transcript(browser))
         numbers = browser.ask("lab", "graph-manne")["numbers"]
-        pages.expect(f"moves of {daemon}: headline and bar", (headline(browser), numbers[0]), ([moves], moves))
-        pages.expect(f"moves of {daemon}: there are some", moves > 1, True)
+        pages.expect(
+            f"moves of {daemon}: headline and bar", (headline(browser), numbers[0]), ([(moves, rounds)], moves)
+        )
+        pages.expect(f"moves of {daemon}: there are some", moves > rounds > 1, True)
+        pages.expect(f"rounds of {daemon}", told_rounds(browser), (rounds, 0, 72))
         silent = browser.ask("text", ".numbers")
         pages.expect(f"{daemon}: silent", (f"spent {moves}, silent; bound" in silent, numbers[1]), (True, 0))
     scrambled(browser, "both", "all")
     said, found = headline(browser), []
     for rules in ("hh", "manne"):
         browser.ask("choose", "#which", rules)
-        moves = last_burst(pages, transcript(browser))
-        found.append((moves, browser.ask("lab", f"graph-{rules}")["numbers"][0]))
-    pages.expect("moves of both", found, [(moves, moves) for moves in said])
+        found.append((last_burst(pages, transcript(browser)), browser.ask("lab", f"graph-{rules}")["numbers"][0]))
+    pages.expect("moves of both", found, [(counts, counts[0]) for counts in said])
     pages.expect("two networks have two counts", len(said), 2)
     pages.expect("complaints of counting", browser.complaints, [])
+
+
+def rounds(pages: Pages, browser: Browser) -> None:
+    """If all enabled nodes move at once, each step is a round, with a mark; the longest run reaches the bound."""
+    fresh(browser, "grid", 36, "manne")
+    browser.ask("choose", "#daemon", "all")
+    browser.ask("setValue", "#faults", SCRAMBLED)
+    browser.click(*place(browser, "#scramble"))
+    before, steps = marks(browser), 0
+    pages.expect("no round after a fault", told_rounds(browser)[0], 0)
+    while browser.ask("lab", "graph-manne")["numbers"][1] and steps < 72:
+        browser.click(*place(browser, "#step"))
+        steps += 1
+        rounds, left, bound = told_rounds(browser)
+        pages.expect(
+            f"after step {steps}", (rounds, marks(browser) - before, rounds + left <= bound), (steps, steps, True)
+        )
+    pages.expect("there are steps", steps > 1, True)
+    with open(f"{TOP}/examples/most_rounds.script", encoding="utf-8") as file:
+        lines = file.read().split("\n")[:-3]
+    script = ";".join(line.replace(" ", "+").replace(">", "%3E") for line in lines)
+    begin(browser, f"#script={script}&nodes=6&rules=manne")
+    waited(browser, "own", "value", "#preset")
+    pages.expect("the longest run", told_rounds(browser), (12, 0, 12))
+    pages.expect("complaints of rounds", browser.complaints, [])
 
 
 def steps_of(text: str) -> list[list[int]]:
@@ -105,4 +147,5 @@ def daemons(pages: Pages, browser: Browser) -> None:
 
 def use(pages: Pages, browser: Browser) -> None:
     counts(pages, browser)
+    rounds(pages, browser)
     daemons(pages, browser)

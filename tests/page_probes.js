@@ -196,6 +196,7 @@ const probes = (() => {
         said: text("undrawn"),
         left: digits(text("left")),
         bound: digits(text("bound")),
+        rounds: `${text("rounds")} ${text("most-rounds")}`,
       };
     },
 

@@ -193,6 +193,24 @@ export declare class Network {
   restless(): Name[];
   /** The most moves that can still come before the next edit or fault, 0 in silence. */
   movesLeft(): number;
+  /**
+   * Counts rounds from here on, or from here anew. A round is the shortest part of a run after which each node
+   * that was enabled at its start has moved, or was not enabled in some state since. Throws `MemoryError` if
+   * memory runs out; then nothing has changed. From then on a step costs a look or two more at each neighbour of
+   * a node that moves. A network that goes on from a transcript counts no rounds before this call.
+   */
+  countRounds(): void;
+  /**
+   * How many rounds are complete since the last edit or fault, or since counting began. Constant time. Throws
+   * `NotCounted` before `countRounds`.
+   */
+  rounds(): number;
+  /**
+   * The most rounds that can still be completed before the next edit or fault, whatever the daemon chooses; 0 in
+   * silence. Of n nodes, those complete and those left are together at most n under `hh`, and 2n under `manne`,
+   * or 2n - 1 if n is odd. Throws `NotCounted` before `countRounds`.
+   */
+  roundsLeft(): number;
   /** The nodes that are present. */
   get present(): Name[];
   /** The edges, each with the node of the lower number first. */
@@ -290,6 +308,11 @@ export declare class MemoryError extends RudekpiError {
 export declare class NoReply extends MemoryError {
   constructor(entry: number, what?: string);
   readonly entry: number;
+}
+
+/** Rounds are asked for, and the network does not count them: call `countRounds` first. */
+export declare class NotCounted extends RudekpiError {
+  constructor();
 }
 
 /**

@@ -19,7 +19,8 @@ DIFFERENT = os.environ.get("DIFFERENT", HERE + "/../out/different")
 def called(words: list[str], text: bytes) -> tuple[int, bytes, bytes]:
     """The exit status and what was written, as bytes: to standard output and to standard error."""
     done = subprocess.run(words, input=text, stdout=subprocess.PIPE, stderr=subprocess.PIPE, check=False)
-    return done.returncode, done.stdout, done.stderr
+    # why a line is bad stands in a second line, which the program alone writes
+    return done.returncode, done.stdout, done.stderr.split(b"\n")[0]
 
 
 def opening(rules: str, nodes: int, present: int) -> tuple[list[str], list[str]]:

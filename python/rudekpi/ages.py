@@ -15,6 +15,7 @@ from dataclasses import dataclass
 from typing import Callable, Deque, Dict, Iterable, Mapping, NamedTuple, Optional, Tuple
 
 from .replies import Name
+from .view_orders import ViewOrder
 
 # how many writes of a node are kept, and how many in all nodes together
 MOST_WRITES, FEWEST_WRITES, ALL_WRITES = 64, 4, 1 << 17
@@ -96,9 +97,12 @@ class Histories:
                 # each node begins null and unflagged
                 rows = found[node] = deque([(self.first, None, old, was)], most + 1)
             elif len(rows) > most:
-                older = self.older.setdefault(node, set())
-                if len(older) < MOST_OLDER:
-                    older.add(rows[0][2:])
+                first = rows[0]
+                known = self.older.get(node)
+                if known is None:
+                    self.older[node] = {(first[2], first[3])}
+                elif len(known) < MOST_OLDER:
+                    known.add((first[2], first[3]))
             rows.append((line, time, pointer, flag))
         self.latest.clear()
 
@@ -261,19 +265,33 @@ class AgeTable:
     """Reads by pair of nodes. Pairs beyond the first 65,536 that have stale reads are not listed."""
 
     def __init__(self) -> None:
-        # by reader, how often it read each node
+        # by reader, how often it read each node; the views in its present order are counted there
         self.reads: dict[int, Dict[int, int]] = {}
+        self.orders: dict[int, ViewOrder] = {}
         self.pairs: dict[tuple[int, int], PairCounts] = {}
-        self.reads_in_all = self.stale_in_all = 0
 
-    def reads_of(self, reader: int) -> Dict[int, int]:
-        found = self.reads.get(reader)
-        if found is None:
-            found = self.reads[reader] = {}
-        return found
+    def add_reads(self, reader: int, nodes: Iterable[int], count: int = 1) -> None:
+        found = self.reads.setdefault(reader, {})
+        for node in nodes:
+            found[node] = found.get(node, 0) + count
+
+    def ordered(self, reader: int, nodes: tuple[int, ...]) -> ViewOrder:
+        """The order of the neighbours that a node's last move lists, all of which are neighbours."""
+        order = self.orders.get(reader)
+        if order and len(order.nodes) == len(nodes) and set(order.nodes) == set(nodes):
+            order.take(nodes)
+            return order
+        self.settle(reader)
+        made = self.orders[reader] = ViewOrder(nodes)
+        return made
+
+    def settle(self, reader: int) -> None:
+        """Forgets the order of a node's neighbours, and counts what it read in that order."""
+        order = self.orders.pop(reader, None)
+        if order and order.count:
+            self.add_reads(reader, order.nodes, order.count)
 
     def add(self, reader: int, read: int, lines: Optional[int], time: Optional[float]) -> None:
-        self.stale_in_all += 1
         found = self.pairs.get((reader, read))
         if found is None:
             if len(self.pairs) == MOST_PAIRS:
@@ -282,7 +300,8 @@ class AgeTable:
         found.add(lines, time)
 
     def forget(self, reader: int, read: int) -> None:
-        """Forgets the reads across a link that is gone, unless one of them was stale."""
+        """Forgets the reads across a link that goes, unless one of them was stale."""
+        self.settle(reader)
         if (reader, read) not in self.pairs:
             self.reads.get(reader, {}).pop(read, None)
 
@@ -290,6 +309,7 @@ class AgeTable:
         """The pairs with stale reads: those with the most of unknown age first, then by age."""
         found = []
         for (reader, read), it in self.pairs.items():
+            self.settle(reader)
             row = PairAges(
                 name(reader),
                 name(read),

@@ -166,6 +166,7 @@ def words_of_sweep(parser: argparse.ArgumentParser, rules: str) -> None:
         "--partners", action="store_true", help="adds columns: pairs broken and remade, nodes without a partner"
     )
     parser.add_argument("--plot", help="a file for a plot, .svg, .png or .pdf; needs matplotlib")
+    parser.add_argument("--plotted", choices=("moves", "rounds"), default="moves", help="what it draws (%(default)s)")
     parser.add_argument("--processes", type=least(1), help="how many processes (one a processor)")
     parser.add_argument(
         "--dask", metavar="tcp://HOST:PORT", help="a Dask scheduler, whose workers play; needs distributed"
@@ -357,7 +358,7 @@ def plot_rows(given: argparse.Namespace, rows: list[Row]) -> None:
     if given.plot and rows:
         from . import plots
 
-        plots.of_rows(rows, given.plot)
+        plots.of_rows(rows, given.plot, given.plotted)
 
 
 def run_compare(given: argparse.Namespace) -> int:

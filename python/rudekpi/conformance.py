@@ -8,7 +8,6 @@ question and explain the answer.
 from __future__ import annotations
 
 import contextlib
-import re
 from dataclasses import dataclass, replace
 from typing import Any, Callable, Iterator, Mapping, Optional, Sequence
 
@@ -34,8 +33,9 @@ from .program import Program
 from .replies import Name
 from .stale_reads import StaleReads
 from .state import State
-from .usual_moves import UsualMoves, written
-from .views import Rule, View, ViewReader, rule_on_views
+from .usual_lines import UsualLines, written
+from .usual_views import UsualViews
+from .views import Rule, View, read_view, rule_on_views
 
 # how many lines back a stale copy is guessed at
 AGE = 100
@@ -132,15 +132,13 @@ class LogJudge:
         self.stopped, self.is_over, self.is_closed = "", False, False
         # the verdict up to an interrupt
         self.so_far: Optional[Conformance] = None
-        # numbers by names in the spelling of most writers
-        self.raw: dict[bytes, int] = {}
         # the present line, or its value, and its time
         self.line: Any = None
         self.time: Optional[float] = None
         self.past: Histories
         self.rule: Rule
-        self.reader: ViewReader
-        self.usual: UsualMoves
+        self.views_read: UsualViews
+        self.usual: UsualLines
         self.reads: StaleReads
         self.diagnosis: Diagnosis
         self.viewed = self.wrong_views = self.stale_moves = 0
@@ -176,7 +174,7 @@ class LogJudge:
         return self.skips_bad_lines and self.named is not None
 
     def take_lines(self, lines: Iterator[tuple[int, Any]]) -> None:
-        running, register = self.running, log_lines.REGISTER.fullmatch
+        running = self.running
         for here in lines:
             if self.is_over:
                 return
@@ -186,8 +184,7 @@ class LogJudge:
             number, line = here
             self.line = line
             if type(line) is bytes:
-                found = register(line)
-                if self.take_register(number, found) if found else self.take_rarer(number, line):
+                if self.named and (self.take_register(number, line) or self.take_rarer(number, line, self.named)):
                     self.events += 1
                     continue
             elif type(line) is Flaw:
@@ -201,22 +198,28 @@ class LogJudge:
             self.take_event(number, event, self.named)
             self.events += 1
 
-    def take_register(self, number: int, found: re.Match[bytes]) -> bool:
-        """Judges a line that names one register; returns False if its names are not in the usual spelling."""
-        stamp, kind, name, target, flag, saw = found.groups()
-        node, new = self.raw.get(name), -1 if target is None else self.raw.get(target)
-        if node is None or new is None:
-            return False
-        is_move = kind == b"move"
-        view = self.reader.usual(saw) if saw is not None and is_move else None
-        if view is None and saw is not None:
-            return False
+    def take_register(self, number: int, line: bytes) -> bool:
+        """Judges a line that names one register; returns False if it is not in the usual spelling."""
+        usual, stamp, view = self.usual, None, None
+        # a second brace begins what the node saw
+        at = line.find(b"{", 1) + 1
+        write = usual.known.get(line[:at] if at else line)
+        if write is None:
+            write, stamp = usual.register(line, at)
+            if write is None:
+                return False
+        node, new, flag, is_move = write
+        if at:
+            text = line if line.endswith(b"}") else line[:-1]
+            view = self.views_read.view(node, text[at:-3]) if text.endswith(b"]}}") else None
+            if view is None:
+                return False
         self.time = None if stamp is None else float(stamp)
         state = self.state
         old, was = state.pointers.get(node, 0), node in state.flags
         if self.dangling:
             old = old or self.dangling.get(node, 0)
-        seen = written(node, old, was, new, flag == b"true")
+        seen = written(node, old, was, new, flag)
         if view:
             self.move_seen(number, seen, view)
         elif is_move:
@@ -225,16 +228,14 @@ class LogJudge:
             self.fault(number, seen, new >= 0, new < 0)
         return True
 
-    def take_rarer(self, number: int, line: bytes) -> bool:
+    def take_rarer(self, number: int, line: bytes, named: Named) -> bool:
         """Judges an edge, or several moves at once, in the usual spelling; returns False for other lines."""
-        if self.named is None:
-            return False
         edge = log_lines.EDGE.fullmatch(line)
         if edge:
-            a, b = self.raw.get(edge[3]), self.raw.get(edge[4])
+            a, b = named.raw.get(edge[3]), named.raw.get(edge[4])
             if a and b:
                 self.time = None if edge[1] is None else float(edge[1])
-                self.edit_numbers(number, edge[2].decode(), [a, b], self.named)
+                self.edit_numbers(number, edge[2].decode(), [a, b], named)
             return bool(a and b)
         found = self.usual.moves(line)
         if found:
@@ -255,10 +256,11 @@ class LogJudge:
         self.machine = engine_of(self.rules, named.capacity, count, self.keeps, *self.made_of, base)
         self.state = State(self.rules, named.capacity, present)
         self.named = named
-        self.past, self.reader = Histories(named.capacity, self.age), ViewReader(self.rules, named.raw)
-        self.raw, self.usual = named.raw, UsualMoves(named.raw, self.reader)
+        self.past = Histories(named.capacity, self.age)
         self.rule = rule_on_views(self.rules, *self.made_of)
         self.reads = StaleReads(self.state, self.past, self.dangling, self.shown, self.name)
+        self.views_read = UsualViews(self.state, named.raw, self.held, self.reads.table)
+        self.usual = UsualLines(named.raw, self.views_read)
         self.diagnosis = Diagnosis(self.state, self.past, self.reads, self.age, self.shown, self.name)
         self.running.begin(self.state)
 
@@ -268,7 +270,7 @@ class LogJudge:
         if kind == "move":
             seen = self.observed(number, event, "move", named)
             if "saw" in event:
-                view = self.reader.read(number, event["saw"], named)
+                view = read_view(number, event["saw"], named, self.has_flags)
                 self.move_seen(number, seen, view)
             else:
                 self.move(number, seen)
@@ -308,7 +310,8 @@ class LogJudge:
                 if not is_plain(move) and log_lines.kind_of(number, move, self.ignore_extra) != "move":
                     raise BadLine(number, f"in moves stand moves alone, and not {spelled(move)}")
                 found.append(self.observed(number, move, "move", named))
-                views.append(self.reader.read(number, move["saw"], named) if "saw" in move else None)
+                view = read_view(number, move["saw"], named, self.has_flags) if "saw" in move else None
+                views.append(view)
             except BadLine as error:
                 raise BadLine(number, f"move {at} of the line: {error.why}") from None
         return found, views
@@ -395,10 +398,13 @@ class LogJudge:
         else:
             state.pointers.pop(node, None)
         self.past.latest.append((node, number, self.time, new, flag, old, was))
+        if self.views_read.texts:
+            self.views_read.follow(node, new, flag)
 
     def remember_write(self, number: int, node: int, pointer: int, flag: bool) -> None:
         """Remembers what a node holds from this line on."""
         self.past.write(number, self.time, node, pointer, flag, self.held(node))
+        self.views_read.forget(node)
 
     def move(self, number: int, seen: Observed) -> None:
         """Asks the machine to make a move; a refusal is a divergence."""
@@ -591,6 +597,7 @@ class LogJudge:
         running.registers[node] = running.here
         if running.waits:
             running.waits.mark(running.here, (node,), True)
+        self.views_read.forget(node)
         self.dangling.pop(node, None)
         if self.views and new and node in state.neighbours and new not in state.neighbours[node]:
             self.dangling[node], new = new, 0

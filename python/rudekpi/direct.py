@@ -15,9 +15,20 @@ from typing import TYPE_CHECKING, Callable, NoReturn, Optional, Sequence
 
 from .batch import Batch
 from .calls import DirectBatch, Rooms
-from .errors import Ended, Inherited, NoReply, RudekpiError, text_of
+from .errors import Ended, Inherited, NoReply, NotCounted, RudekpiError, text_of
 from .kept_text import KeptText
-from .library import DONE, LOG_FULL, NO_MEMORY, NO_SESSION, NOT_SILENT, ROW_NUMBERS, Library, NodeView, Slot
+from .library import (
+    DONE,
+    LOG_FULL,
+    NO_MEMORY,
+    NO_SESSION,
+    NOT_COUNTED,
+    NOT_SILENT,
+    ROW_NUMBERS,
+    Library,
+    NodeView,
+    Slot,
+)
 from .names import Names
 
 if TYPE_CHECKING:
@@ -105,6 +116,8 @@ class Direct:
             ended = Ended(4, b"! log full")
             self.end(ended)
             raise self.ended or ended
+        if status == NOT_COUNTED:
+            raise NotCounted
         if status == NO_MEMORY:
             raise MemoryError("the command was not carried out, and the network is as it was")
         raise ValueError(f"the library takes no such numbers (status {status})")
@@ -236,6 +249,18 @@ class Direct:
         if status:
             self.raise_for(status)
         return found.value
+
+    def count_rounds(self) -> None:
+        with self.lock:
+            status = self.library.count_rounds(self.at)
+        if status:
+            self.raise_for(status)
+
+    def rounds(self) -> int:
+        return self._number("rounds", ())[1]
+
+    def rounds_left(self) -> int:
+        return self._number("rounds_left", ())[1]
 
     def renumber(self) -> str:
         """Numbers the entries from 1 again; returns the transcript that ends.

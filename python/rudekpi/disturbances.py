@@ -20,6 +20,8 @@ from .walks import Topology, Walk
 REGISTERS = ("any", "pointer", "flag")
 # the part of a disturbance's text that names a file, whose path may have commas, with the digest of what it has
 FILED = re.compile(r"(?:^|, )(trace|by groups of) (.+) ([0-9a-f]{16})(?=$|, every )", re.DOTALL)
+# the text of a disturbance between whose edits and faults moves come
+ONE_BY_ONE = re.compile(r"(?:trace .*|.*, every [0-9]+ moves?)", re.DOTALL)
 # the edits and faults that come at once, each with the numbers of its nodes
 Event = Sequence[Tuple[str, Tuple[int, ...]]]
 

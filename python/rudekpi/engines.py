@@ -17,7 +17,7 @@ from .replies import Wish
 from .state import WORDS
 
 # how many rows of moves, and of words, a step of one node has
-ONE = ctypes.c_size_t(1)
+ONE = ctypes.c_size_t.from_param(1)
 RULES = {rule: number for number, rule in enumerate(MOVES) if rule}
 
 
@@ -79,7 +79,7 @@ class OfLibrary:
         self.told_at, self.items_at, self.row_at = map(ctypes.byref, (told, items, row))
         self.told, self.item, self.row = (memoryview(it).cast("B").cast("I") for it in (told, items, row))
         self.edits = {word: getattr(library, word) for word in WORDS}
-        self.step_call, self.rows_call = library.step, library.rows
+        self.step_call, self.rows_call = library.step_of_one, library.rows_of_one
         if not keeps:
             self.checked(library.transcript(self.at, ctypes.c_bool(False)))
 
@@ -107,7 +107,7 @@ class OfLibrary:
     def step(self, items: Sequence[tuple[int, int]]) -> Stepped:
         given = array.array("I", chain.from_iterable(items))
         at, size = ctypes.c_void_p(given.buffer_info()[0]), ctypes.c_size_t(len(items))
-        refusal = self.checked(self.step_call(self.at, at, size, self.told_at))
+        refusal = self.checked(self.library.step(self.at, at, size, self.told_at))
         return Stepped(refusal, () if refusal else [*self.rows(len(items))])
 
     def rows(self, most: int) -> Iterator[tuple[int, int, int]]:

@@ -98,6 +98,16 @@ class NoSuchCommand(RudekpiError):
     """The program, which plays this network, has no such command; only the library has."""
 
 
+class NotCounted(RudekpiError):
+    """Rounds are asked for, and the network does not count them: call `count_rounds` first."""
+
+    def __init__(self) -> None:
+        super().__init__("rounds are not counted: call count_rounds first")
+
+    def __reduce__(self) -> tuple[object, ...]:
+        return type(self), ()
+
+
 class Garbled(RudekpiError):
     """The program wrote something that answers no command."""
 

@@ -18,6 +18,7 @@ if TYPE_CHECKING:
     from ctypes import _CArgObject
 
 DONE, BAD_LINE, LOG_FULL, NO_MEMORY, NO_SESSION, BAD_ARGUMENT, REFUSED, DAMAGED, NOT_SILENT, NOT_SHOWN = range(10)
+NOT_COUNTED = 10
 ENGINES = ("library", "program")
 # numbered from 1
 REFUSALS = (
@@ -107,6 +108,9 @@ SHORT = (
     "registers",
     "neighbours",
     "moves_left",
+    "count_rounds",
+    "rounds",
+    "rounds_left",
     "is_at_rest",
     "transcript",
     "local_rule",
@@ -137,6 +141,8 @@ LONG = (
     "audit_join",
 )
 SIZES = ("rows", "session_length", "session_read")
+# the same calls for one node, during which other Python threads wait
+OF_ONE = "step", "rows"
 NONE = ("session_free", "audit_free")
 
 
@@ -166,6 +172,10 @@ class Library:
                     made = getattr(where, f"rudekpi_{name}")
                     made.restype = answer
                     setattr(self, name, made)
+            for name in OF_ONE:
+                made = getattr(holding, f"rudekpi_{name}")
+                made.restype = size if name in SIZES else number
+                setattr(self, f"{name}_of_one", made)
             self.judge = held.rudekpi_audit
         except AttributeError as error:
             raise OSError(f"{path} is no library of this package: {error}") from None

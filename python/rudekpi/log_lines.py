@@ -18,18 +18,12 @@ Block = List[Tuple[int, Any]]
 # how many bytes are read at once, and how many a line may have
 PIECE, LONGEST = 1 << 16, 1 << 24
 UTF_16 = (b"\xff\xfe", b"\xfe\xff")
-# a line with one register or an edge, in the spelling of most writers; strings without escapes
+# a line with an edge, and parts of others, in the spelling of most writers; strings without escapes
 NAME = rb'"[^"\\\x00-\x1f]*"|[0-9]+'
 WHOLE = rb"-?(?:0|[1-9][0-9]*)"
 TIME = rb'"time": ?(' + WHOLE + rb"(?:\.[0-9]+)?(?:[eE][-+]?[0-9]+)?)"
 START, END = rb'\{(?:"clock": ?' + WHOLE + rb", ?)?(?:" + TIME + rb", ?)?", rb"\}\r?"
 VALUE = rb'(?:"pointer": ?(' + NAME + rb'|null)|"flag": ?(true|false))'
-# what the node saw, without its brackets; `views` reads it
-SAW = rb'(?:, ?"saw": ?\{(.*)\]\})?'
-REGISTER = re.compile(START + rb'"(move|fault)": ?(' + NAME + rb"), ?" + VALUE + SAW + END)
-MOVE = re.compile(rb'"move": ?(' + NAME + rb"), ?" + VALUE)
-# what stands between a move's register and what its node saw
-SAWS = b', "saw": {', b',"saw":{'
 EDGE = re.compile(START + rb'"(link|unlink)": ?\[(' + NAME + rb"), ?(" + NAME + rb")\]" + END)
 # how many characters of a line or a name a message shows
 SHOWN = 200

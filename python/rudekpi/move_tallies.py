@@ -2,8 +2,9 @@
 
 from __future__ import annotations
 
+from collections import defaultdict
 from dataclasses import dataclass
-from typing import Callable, Iterable
+from typing import Callable, DefaultDict, Iterable
 
 from .library import MOVES
 from .local_rules import REPAIR
@@ -12,6 +13,7 @@ from .replies import Name
 WRONG, STALE = range(2)
 # the rules by their numbers
 RULES = ("none", *MOVES[1:], "repair")
+COUNT = len(RULES)
 assert RULES[REPAIR] == "repair"
 
 
@@ -35,21 +37,20 @@ class MoveTally:
 class MoveTallies:
     def __init__(self) -> None:
         # by node and rule's number, in one number: the moves that did not diverge, and those that did by kind
-        self.moved: dict[int, int] = {}
+        self.moved: DefaultDict[int, int] = defaultdict(int)
         self.counts: dict[int, list[int]] = {}
 
     def move(self, node: int, rule: int) -> None:
-        at = node * len(RULES) + rule
-        self.moved[at] = self.moved.get(at, 0) + 1
+        self.moved[node * COUNT + rule] += 1
 
     def diverge(self, node: int, rule: int, kind: int) -> None:
-        self.counts.setdefault(node * len(RULES) + rule, [0, 0])[kind] += 1
+        self.counts.setdefault(node * COUNT + rule, [0, 0])[kind] += 1
 
     def rows(self, name: Callable[[int], Name]) -> tuple[MoveTally, ...]:
         """The tallies with divergences or stale moves: the most wrong ones first."""
         found = []
         for at, (wrong, stale) in self.counts.items():
-            node, rule = divmod(at, len(RULES))
+            node, rule = divmod(at, COUNT)
             found.append(MoveTally(name(node), RULES[rule], self.moved.get(at, 0) + wrong + stale, wrong, stale))
         # those of equal counts stay in the order of the log
         return tuple(sorted(found, key=lambda row: (-row.wrong, -row.stale)))

@@ -423,6 +423,34 @@ class Network:
         status = self.status()
         return moves_left(self.rules, status.charge, status.nodes) if status.enabled else 0
 
+    def count_rounds(self) -> None:
+        """Counts rounds from here on, or from here anew.
+
+        A round is the shortest part of a run after which each node that was enabled at its start has moved, or
+        was not enabled in some state since. An accepted edit or fault cuts it off. A resumed network counts no
+        rounds before this call; `renumber` changes no count. From then on a step costs a look or two more at each
+        neighbour of a node that moves. No entry is added. Raises `MemoryError` if memory runs out; then nothing
+        has changed. Raises `NoSuchCommand` with a program.
+        """
+        self._session.count_rounds()
+
+    def rounds(self) -> int:
+        """How many rounds are complete since the last accepted edit or fault, or since `count_rounds`.
+
+        No entry is added. Constant time. Raises `NotCounted` before `count_rounds`, and `NoSuchCommand` with a
+        program.
+        """
+        return self._session.rounds()
+
+    def rounds_left(self) -> int:
+        """The most rounds that can be completed before the next edit or fault, whatever the daemon chooses.
+
+        This is 0 if the network is silent, and at most `moves_left()`. Those complete and those left are together
+        at most n of n nodes under `hh`, and 2n under `manne`, or 2n - 1 if n is odd. No entry is added. Raises
+        `NotCounted` before `count_rounds`, and `NoSuchCommand` with a program.
+        """
+        return self._session.rounds_left()
+
     def settle(self, daemon: Union[Daemon, AnyDaemon, str], *, seed: int = 0) -> Settled:
         """Lets a daemon choose the movers until the network is silent; returns steps, moves and first charge.
 

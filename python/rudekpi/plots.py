@@ -7,7 +7,7 @@ import math
 import os
 import textwrap
 from collections import Counter
-from typing import Any, Iterable, Optional, Sequence, Union
+from typing import Any, Callable, Iterable, NamedTuple, Optional, Sequence, Union
 
 from . import rules as rule_sets
 from .files import write_whole
@@ -24,16 +24,38 @@ COLOURS = ("#0072b2", "#e69f00", "#009e73", "#cc79a7", "#56b4e9", "#d55e00", "#0
 OF_RULES = {"hh": COLOURS[0], "manne": COLOURS[5]}
 BOUND = "#777777"
 MOST_PANELS, ACROSS = 60, 4
-TITLE = "moves until silence"
 # the height of the legend, in inches
 LEGEND = 0.6
 # a bound above this multiple of a panel's moves is written at the top, not drawn, so that the moves can be seen
 MOST_ABOVE = 4
 ABOVE = "bound \u2191: above the axis"
+NO_BOUND = "no bound: disturbances came one by one"
 # a sign for each daemon, as they come in natural order
 SIGNS = "os^Dv<>pXP*hd"
 # sizes that differ by more than this factor are on a logarithmic axis
 MOST_LINEAR = 4
+
+
+class Figures(NamedTuple):
+    """What a plot draws of each run: a count, and the proved bound on it, None if there is none."""
+
+    word: str
+    of: Callable[[Row], int]
+    bound: Callable[[Row], Optional[int]]
+
+
+PLOTTED = {
+    "moves": Figures("moves", lambda row: row.moves, lambda row: row.bound),
+    "rounds": Figures("rounds", lambda row: row.rounds, lambda row: row.most_rounds),
+}
+MOVES = PLOTTED["moves"]
+
+
+def figures_named(word: str) -> Figures:
+    """The figures with this name. Raises `ValueError` for another word than those of `PLOTTED`."""
+    if word not in PLOTTED:
+        raise ValueError(f"a plot draws one of {', '.join(PLOTTED)}, and not {word!r}")
+    return PLOTTED[word]
 
 
 def figure_of(width: float, height: float) -> Any:
@@ -86,14 +108,16 @@ def in_order(found: dict[Pair, Any]) -> dict[Pair, Any]:
     return {key: found[key] for key in sorted(found, key=lambda pair: [natural(word) for word in pair])}
 
 
-def of_rows(rows: Sequence[Row], path: Path) -> None:
+def of_rows(rows: Sequence[Row], path: Path, plotted: str = "moves") -> None:
     """Writes a picture of each run's moves, with a panel and its bounds for each graph and disturbance.
 
     In a panel each daemon with its rules has a place on the axis. Runs with equal moves are side by side, and
     a line shows the median. A bound of at most four times the panel's moves is drawn; any other is a number
-    at the top, with an arrow. Raises `ValueError` if there are no rows, or more than 60 panels.
+    at the top, with an arrow. With `plotted="rounds"` the picture has each run's rounds, with their bounds;
+    runs whose disturbances came one by one have none, and the picture says so. Raises `ValueError` if there
+    are no rows, more than 60 panels, or another word is given.
     """
-    save(panels_figure(rows), path)
+    save(panels_figure(rows, figures_named(plotted)), path)
 
 
 def save(figure: Any, path: Path) -> None:
@@ -103,24 +127,24 @@ def save(figure: Any, path: Path) -> None:
     write_whole(path, made.getvalue())
 
 
-def panels_figure(rows: Sequence[Row]) -> Any:
+def panels_figure(rows: Sequence[Row], what: Figures = MOVES) -> Any:
     panels = panels_of(rows)
     check_panels(len(panels))
     groups = groups_of(panels)
-    tops = tops_of(panels)
+    tops = tops_of(panels, what)
     columns = columns_of(list(panels))
     lines = -(-len(panels) // columns)
     width = max(2.4, 0.9 + 0.55 * len(groups))
     figure = figure_of(max(4.5, columns * width), LEGEND + lines * 2.9)
-    drawn = {fits(group, panel) for panel in panels.values() for group in panel.values()}
-    body = below_legend(figure, {row.rules for row in rows}, bounds=drawn)
+    drawn = {fits(group, panel, what) for panel in panels.values() for group in panel.values()}
+    body = below_legend(figure, what, {row.rules for row in rows}, bounds=drawn)
     axes = body.subplots(lines, columns, squeeze=False).flatten()
     titles = titles_of({graph for graph, _ in panels})
     for place, ((graph, disturbance), panel) in enumerate(panels.items()):
-        draw_panel(axes[place], panel, groups, tops[graph, disturbance])
+        draw_panel(axes[place], panel, groups, tops[graph, disturbance], what)
         axes[place].set_title(f"{titles[graph]}\n{plain(disturbance)}", fontsize="small")
         if place % columns == 0:
-            axes[place].set_ylabel("moves")
+            axes[place].set_ylabel(what.word)
     for unused in axes[len(panels) :]:
         unused.set_axis_off()
     return figure
@@ -135,25 +159,32 @@ def columns_of(panels: Sequence[Pair]) -> int:
     return min(len(panels), ACROSS)
 
 
-def moves_of(panel: dict[Pair, list[Row]]) -> int:
-    """The most moves of a run in a panel, at least 1."""
-    return max([1, *(row.moves for group in panel.values() for row in group)])
+def most_of(panel: dict[Pair, list[Row]], what: Figures) -> int:
+    """The most moves, or rounds, of a run in a panel, at least 1."""
+    return max([1, *(what.of(row) for group in panel.values() for row in group)])
 
 
-def fits(group: Sequence[Row], panel: dict[Pair, list[Row]]) -> bool:
-    """Whether the bounds of some runs are near enough to be drawn in their panel."""
-    return max(row.bound for row in group) <= MOST_ABOVE * moves_of(panel)
+def bounds_of(group: Iterable[Row], what: Figures) -> list[int]:
+    """The bounds of the runs that have one."""
+    return [bound for bound in map(what.bound, group) if bound is not None]
 
 
-def tops_of(panels: dict[Pair, dict[Pair, list[Row]]]) -> dict[Pair, float]:
+def fits(group: Sequence[Row], panel: dict[Pair, list[Row]], what: Figures) -> Optional[bool]:
+    """Whether the bounds of some runs are near enough to be drawn in their panel; None if they have none."""
+    bounds = bounds_of(group, what)
+    return max(bounds) <= MOST_ABOVE * most_of(panel, what) if bounds else None
+
+
+def tops_of(panels: dict[Pair, dict[Pair, list[Row]]], what: Figures = MOVES) -> dict[Pair, float]:
     """How far each panel's axis reaches: to its most moves, and to each bound that is drawn.
 
     Panels of one disturbance share an axis if theirs differ at most by a factor of two.
     """
     reach = {}
     for key, panel in panels.items():
-        bounds = [row.bound for group in panel.values() if fits(group, panel) for row in group]
-        reach[key] = float(max([moves_of(panel), *bounds]))
+        groups = [group for group in panel.values() if fits(group, panel, what)]
+        bounds = [bound for group in groups for bound in bounds_of(group, what)]
+        reach[key] = float(max([most_of(panel, what), *bounds]))
     tops = {}
     for key in panels:
         like = [reach[other] for other in panels if other[1] == key[1]]
@@ -161,15 +192,15 @@ def tops_of(panels: dict[Pair, dict[Pair, list[Row]]]) -> dict[Pair, float]:
     return tops
 
 
-def draw_panel(axes: Any, panel: dict[Pair, list[Row]], groups: Sequence[Pair], top: float) -> None:
+def draw_panel(axes: Any, panel: dict[Pair, list[Row]], groups: Sequence[Pair], top: float, what: Figures) -> None:
     """The runs of one network, a place for each group; the axis reaches to `top`."""
-    axes.set_ylim(-0.04 * top, top * (1.08 if all(fits(group, panel) for group in panel.values()) else 1.25))
+    axes.set_ylim(-0.04 * top, top * (1.08 if all(fits(group, panel, what) for group in panel.values()) else 1.25))
     axes.set_xlim(-0.6, len(groups) - 0.4)
     for place, key in enumerate(groups):
         if key in panel:
-            draw_runs(axes, place, panel[key], 0.8)
-            draw = draw_bounds if fits(panel[key], panel) else tell_bounds
-            draw(axes, place, [row.bound for row in panel[key]], 0.9)
+            draw_runs(axes, place, panel[key], 0.8, what)
+            draw = draw_bounds if fits(panel[key], panel, what) else tell_bounds
+            draw(axes, place, bounds_of(panel[key], what), 0.9)
     axes.set_xticks(range(len(groups)), [f"{plain(daemon)}\n{rules}" for daemon, rules in groups], fontsize="x-small")
     if max(len(daemon) for daemon, _ in groups) > 9:
         axes.tick_params(axis="x", labelrotation=60)
@@ -177,9 +208,9 @@ def draw_panel(axes: Any, panel: dict[Pair, list[Row]], groups: Sequence[Pair], 
     axes.tick_params(axis="y", labelsize="x-small")
 
 
-def draw_runs(axes: Any, place: float, group: Sequence[Row], width: float, sign: str = "o") -> None:
+def draw_runs(axes: Any, place: float, group: Sequence[Row], width: float, what: Figures, sign: str = "o") -> None:
     """A dot for each run, and a line at the median."""
-    at, colour = sorted(row.moves for row in group), OF_RULES[group[0].rules]
+    at, colour = sorted(map(what.of, group)), OF_RULES[group[0].rules]
     across = [place + aside for aside in asides(at, width)]
     axes.scatter(across, at, s=9, alpha=0.6, color=colour, linewidths=0, marker=sign)
     middle = (at[(len(at) - 1) // 2] + at[len(at) // 2]) / 2
@@ -199,6 +230,8 @@ def asides(numbers: Sequence[int], width: float) -> list[float]:
 
 def draw_bounds(axes: Any, place: float, bounds: Sequence[int], width: float) -> None:
     """The bounds at one place: a line; or two lines with a band between them, if the bounds differ."""
+    if not bounds:
+        return
     low, high = min(bounds), max(bounds)
     ends = [place - width / 2, place + width / 2]
     for bound in {low, high}:
@@ -208,27 +241,28 @@ def draw_bounds(axes: Any, place: float, bounds: Sequence[int], width: float) ->
 
 
 def tell_bounds(axes: Any, place: float, bounds: Sequence[int], _: float) -> None:
-    """The bounds at one place, as numbers at the top, since they are above it."""
-    low, high = min(bounds), max(bounds)
+    """The bounds at one place, as numbers at the top, since they are above it; or that there are none."""
+    low, high = min(bounds, default=0), max(bounds, default=0)
     text = f"bound\n\u2191 {low}" if low == high else f"bound\n\u2191 {low} to\n{high}"
+    text = text if bounds else "no\nbound"
     axes.annotate(
         text, (place, 0.99), xycoords=("data", "axes fraction"), ha="center", va="top", fontsize=6, color=BOUND
     )
 
 
-def over_graphs(rows: Sequence[Row], path: Path) -> None:
-    """Writes a picture of the moves of each run over graphs of growing size.
+def over_graphs(rows: Sequence[Row], path: Path, plotted: str = "moves") -> None:
+    """Writes a picture of the moves of each run over graphs of growing size, or of the rounds, as `of_rows`.
 
     Graphs of one family, such as `ring:N`, are at their numbers of nodes, on an axis that is logarithmic if
     these differ by more than a factor of four. Other graphs, and several disturbances of a graph, have a place
     each, without a scale, in the order of their sizes; the axis says which. The sign shows the daemon. The axis
     of the moves is logarithmic, but linear below 1 if a run has no moves. Raises `ValueError` if there are no
-    rows.
+    rows, or another word is given.
     """
-    save(growth_figure(rows), path)
+    save(growth_figure(rows, figures_named(plotted)), path)
 
 
-def growth_figure(rows: Sequence[Row]) -> Any:
+def growth_figure(rows: Sequence[Row], what: Figures = MOVES) -> Any:
     found = panels_of(rows)
     panels = dict(sorted(found.items(), key=lambda item: max(row.n for rows in item[1].values() for row in rows)))
     groups = groups_of(panels)
@@ -236,9 +270,10 @@ def growth_figure(rows: Sequence[Row]) -> Any:
     signs = {daemon: SIGNS[at % len(SIGNS)] for at, daemon in enumerate(daemons)}
     # as wide as the legend at least
     figure = figure_of(max(4.5 + len(signs), 1 + len(panels) * (0.3 + 0.4 * len(groups))), 4.4)
-    axes = below_legend(figure, {row.rules for row in rows}, signs).subplots()
-    axes.set_ylabel("moves")
-    set_heights(axes, rows)
+    has_bounds = {None if what.bound(row) is None else True for row in rows}
+    axes = below_legend(figure, what, {row.rules for row in rows}, signs, has_bounds).subplots()
+    axes.set_ylabel(what.word)
+    set_heights(axes, rows, what)
     places = set_places(axes, list(panels))
     gap = min([after - before for before, after in zip(places, places[1:])], default=1.0)
     width = 0.8 * gap / len(groups)
@@ -246,15 +281,16 @@ def growth_figure(rows: Sequence[Row]) -> Any:
         for number, key in enumerate(groups):
             if key in panel:
                 place = at + (number - (len(groups) - 1) / 2) * width
-                draw_runs(axes, place, panel[key], width * 0.8, signs[key[0]])
-                draw_bounds(axes, place, [row.bound for row in panel[key]], width)
+                draw_runs(axes, place, panel[key], width * 0.8, what, signs[key[0]])
+                draw_bounds(axes, place, bounds_of(panel[key], what), width)
     axes.set_xlim(places[0] - 0.55 * gap, places[-1] + 0.55 * gap)
     return figure
 
 
-def set_heights(axes: Any, rows: Sequence[Row]) -> None:
+def set_heights(axes: Any, rows: Sequence[Row], what: Figures) -> None:
     """The axis of the moves, with all runs and bounds inside it, also those at 0."""
-    least, most = min(row.moves for row in rows), max(max(row.bound, row.moves, 1) for row in rows)
+    counts = [what.of(row) for row in rows]
+    least, most = min(counts), max([1, *counts, *bounds_of(rows, what)])
     if least:
         axes.set_yscale("log")
         axes.set_ylim(least / 3, 1.3 * most)
@@ -295,11 +331,15 @@ def sizes_of(panels: Sequence[Pair]) -> Optional[tuple[str, list[int]]]:
 
 
 def below_legend(
-    figure: Any, rules: Iterable[str], signs: Optional[dict[str, str]] = None, bounds: Iterable[bool] = (True,)
+    figure: Any,
+    what: Figures,
+    rules: Iterable[str],
+    signs: Optional[dict[str, str]] = None,
+    bounds: Iterable[Optional[bool]] = (True,),
 ) -> Any:
     """The part of a figure below the legend of its colours, signs and lines.
 
-    `bounds` says whether bounds are drawn, whether they are numbers at the top, or both.
+    `bounds` has True if bounds are drawn, False if some are numbers at the top, and None if some are missing.
     """
     from matplotlib.lines import Line2D
 
@@ -312,11 +352,22 @@ def below_legend(
         for daemon, sign in (signs or {}).items()
     ]
     marks += [Line2D([], [], color="#000000", linewidth=1, label="median")]
-    marks += [Line2D([], [], color=BOUND, linewidth=1.2, label="bound")] * (True in set(bounds))
-    marks += [Line2D([], [], linestyle="", label=ABOVE)] * (False in set(bounds))
+    found = set(bounds)
+    marks += [Line2D([], [], color=BOUND, linewidth=1.2, label="bound")] * (True in found)
+    marks += [Line2D([], [], linestyle="", label=ABOVE)] * (False in found)
     height = figure.get_figheight()
     head, body = figure.subfigures(2, 1, height_ratios=[LEGEND, height - LEGEND])
-    head.legend(handles=marks, loc="center", ncols=len(marks), fontsize="x-small", frameon=False, title=TITLE)
+    title = f"{what.word} until silence" + f"; {NO_BOUND}" * (None in found)
+    size = "small" if None in found else None
+    head.legend(
+        handles=marks,
+        loc="center",
+        ncols=len(marks),
+        fontsize="x-small",
+        frameon=False,
+        title=title,
+        title_fontsize=size,
+    )
     return body
 
 

@@ -3,7 +3,8 @@
 A round is the shortest part of a run such that each node that was enabled at its start moved or stopped being
 enabled: Dolev, "Self-Stabilization", 2000. An edit or a fault cuts it off. So `rules.most_rounds` bounds the
 rounds of each epoch, which is proved of this definition (docs/BOUNDS.md). The enabled nodes found here are
-compared with those in the machine's own replies.
+compared with those in the machine's own replies. These are the counts of a transcript: in a network that the
+library plays, the engine counts rounds (`Network.rounds`). Tests compare both.
 """
 
 from __future__ import annotations

@@ -9,6 +9,8 @@ import re
 from dataclasses import dataclass, fields
 from typing import Any, BinaryIO, Callable, Iterable, Iterator, NamedTuple, Optional, Sequence, TextIO
 
+from . import rules as rule_sets
+from .disturbances import ONE_BY_ONE
 from .kept_graphs import keep_beside
 from .partners import NAMES as PARTNERS
 
@@ -22,8 +24,9 @@ class Row:
 
     `charge` is the charge at the beginning, `pairs` the number of pairs at the end. `bound` is that of the
     last `Epoch`. If disturbances come one by one, `charge` also includes the sum of their costs, and `bound`
-    is that of a `Burst`. The moves exceed neither charge nor bound, and the rounds after disturbances at
-    once not `rules.most_rounds`. `seconds` is the time for the whole experiment.
+    is that of a `Burst`. The moves exceed neither charge nor bound, and the rounds not `most_rounds`.
+    `rounds` counts them by the engine if the library played, and else by the client along the transcript.
+    `seconds` is the time for the whole experiment.
 
     `changes` counts the faults that changed a register, None if they were drawn with any value. `digest` is
     that of the graph, empty in a row of an earlier version. `maximum` is the size of a maximum matching at
@@ -64,6 +67,14 @@ class Row:
     @property
     def key(self) -> tuple[object, ...]:
         return self.graph, self.rules, self.daemon, self.seed, self.disturbance
+
+    @property
+    def most_rounds(self) -> Optional[int]:
+        """The proved bound on the rounds: n under `hh`, and 2n under `manne`, or 2n - 1 if n is odd.
+
+        None if the disturbances came one by one: each begins rounds anew, so that no number of nodes bounds them.
+        """
+        return None if ONE_BY_ONE.fullmatch(self.disturbance) else rule_sets.most_rounds(self.rules, self.n)
 
 
 OPTIONAL = ("maximum", *PARTNERS)

@@ -127,6 +127,14 @@ class Session:
     def is_at_rest(self, number: int) -> bool:
         raise self._untold("does not tell who is at rest")
 
+    def count_rounds(self) -> None:
+        raise self._untold("counts no rounds")
+
+    def rounds(self) -> int:
+        raise self._untold("counts no rounds")
+
+    rounds_left = rounds
+
     def _untold(self, what: str) -> RudekpiError:
         """The error for a question that only the library answers."""
         if isinstance(self.talk.ended, Inherited):

@@ -57,19 +57,13 @@ class StaleReads:
 
     def count(self, line: int, time: Optional[float], node: int, view: View) -> None:
         """Counts the reads of a move."""
-        table, dangling, near = (self.table, self.dangling, self.state.neighbours.get(node, ()))
-        pointers, flags, reads = (self.state.pointers, self.state.flags, table.reads_of(node))
-        seen = view.seen
-        for other, pointer, flag, _ in seen:
-            reads[other] = reads.get(other, 0) + 1
-            if (
-                pointers.get(other, 0) != pointer
-                or (other in flags) is not flag
-                or other not in near
-                or other in dangling
-            ):
-                self.count_stale(line, time, node, other, pointer, flag)
-        table.reads_in_all += len(seen)
+        table, order = self.table, view.order
+        if order and table.orders.get(node) is order:
+            order.count += 1
+        else:
+            table.add_reads(node, [it[0] for it in view.seen])
+        for other, pointer, flag, _ in view.doubtful:
+            self.count_stale(line, time, node, other, pointer, flag)
 
     def count_stale(self, line: int, time: Optional[float], node: int, other: int, pointer: int, flag: bool) -> None:
         begun: tuple[int, Optional[float]]
@@ -97,7 +91,7 @@ class StaleReads:
 
     def found(self, line: int, time: Optional[float], node: int, view: View) -> Iterator[Difference]:
         near = self.state.neighbours.get(node, set())
-        for other, pointer, flag, _ in view.seen:
+        for other, pointer, flag in view.seen:
             if other not in near:
                 change = self.past.changed(node, other)
                 went = change if change and not change[3] else None

@@ -72,6 +72,8 @@ class Played:
     changes: Optional[int] = None
     # the entry in silence after which the disturbances come; that of `before` if there are none
     quiet: int = 0
+    # the rounds of the daemon's part, as the library's engine counted them; None with the program
+    rounds: Optional[int] = None
 
 
 @dataclass(frozen=True)
@@ -139,14 +141,14 @@ class Experiment:
                 quiet = net._session.entries
                 if not wanted.is_one_by_one:
                     disturb_at_once(net, events, self.seed)
-            before, player = net.status(), Player(net, daemon)
+            before, player = net.status(), Player(net, daemon, counts_rounds=True)
             if wanted.is_one_by_one:
                 disturb_one_by_one(net, events, self.seed, player)
             player.settle()
             after = net.status()
         changes = None if wanted.any_value and wanted.faults else events.changes
         quiet = before.entry if quiet is None else quiet
-        return Played(net.transcript(), before, after, player.steps, player.moves, names, changes, quiet)
+        return Played(net.transcript(), before, after, player.steps, player.moves, names, changes, quiet, player.rounds)
 
     def joining(self, nodes: list[Name]) -> set[Name]:
         """The nodes that join, the first of these or of random groups."""
@@ -192,7 +194,7 @@ class Experiment:
             str(self.disturbance),
             watch.steps,
             moves,
-            watch.rounds,
+            watch.rounds if played.rounds is None else played.rounds,
             watch.moves["update"],
             watch.moves["marry"],
             watch.moves["seduce"],

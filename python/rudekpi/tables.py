@@ -1,4 +1,4 @@
-"""The table of `compare`: moves under both rule sets, with the bound."""
+"""The table of `compare`: moves and rounds under both rule sets, with their bounds."""
 
 from __future__ import annotations
 
@@ -11,7 +11,7 @@ from .sweeps import Row, natural
 
 HEAD = (
     *("graph", "disturbance", "daemon", "rules", "runs", "min", "mean", "median", "95% of median", "95th", "max"),
-    *("bound", "steps", "rounds"),
+    *("bound", "steps", "rounds", "rounds bound"),
 )
 # of rows with what happened to the pairs: medians, and the most of one node in any run
 PARTNER_HEAD = (
@@ -63,6 +63,13 @@ def partner_figures(group: Sequence[Row]) -> list[str]:
     return figures
 
 
+def rounds_bound(group: Sequence[Row]) -> str:
+    """The most rounds that any of these runs may have; `-` if no bound is known."""
+    bounds = [row.most_rounds for row in group]
+    known = [bound for bound in bounds if bound is not None]
+    return str(max(known)) if len(known) == len(bounds) else "-"
+
+
 def figures_of(group: Sequence[Row]) -> list[str]:
     moves = sorted(row.moves for row in group)
     low, high = interval(moves)
@@ -77,6 +84,7 @@ def figures_of(group: Sequence[Row]) -> list[str]:
         max(row.bound for row in group),
         f"{statistics.median(row.steps for row in group):g}",
         f"{statistics.median(row.rounds for row in group):g}",
+        rounds_bound(group),
     ]
     return [str(figure) for figure in figures]
 

@@ -7,18 +7,18 @@ verdict is that of the proved rule of one node. Without the library it is by thi
 from __future__ import annotations
 
 import ctypes
-import re
 import struct
 from typing import TYPE_CHECKING, Any, Callable, NamedTuple, Optional, Protocol, Sequence, Tuple
 
 from .errors import BadLine
 from .library import DONE, NOT_SHOWN, VIEW_FAULTS, Library, LocalAnswer, chosen
 from .local_rules import REPAIR, rules_number
-from .log_lines import NAME, spelled
+from .log_lines import spelled
 from .observed_moves import ABANDON, CHOOSING, UPDATE, Observed, is_allowed, moves_of, observed, rule_of, with_own
 from .program import Program
 from .reasons import Reasons
 from .state import State
+from .view_orders import ViewOrder
 
 if TYPE_CHECKING:
     from .log_names import Named
@@ -27,85 +27,51 @@ TWICE, OWN, AT_ITSELF, AT_STRANGER = map(
     VIEW_FAULTS.index, ("not-ascending", "own-neighbour", "points-at-itself", "points-at-stranger")
 )
 RECORD = struct.Struct("=III")
-# the registers of a neighbour in the spelling of most writers, without the last bracket
-SEEN = re.compile(rb'("[^"\\\x00-\x1f]*"): ?\[(' + NAME + rb"|null)(?:, ?(true|false))?")
-# how many spellings of registers, and how many sizes, are kept
-MOST_SPELLINGS = 1 << 15
+# how many sizes of views are kept
+MOST_SIZES = 64
 # a neighbour's number, pointer (0 for null) and flag, and the library's record of it
 Seen = Tuple[int, int, bool, bytes]
 
 
 class View(NamedTuple):
-    """What a node saw of its neighbours, ascending by number."""
+    """What a node saw of its neighbours: the library's records, ascending by number.
 
-    seen: Sequence[Seen]
+    `order` is the node's order of its neighbours, None if it is not known, or if one of those
+    that it saw is none. `doubtful` has those that may not have held what was seen of them, ascending.
+    """
+
     records: bytes
+    order: Optional[ViewOrder]
+    doubtful: Sequence[Seen]
+
+    @property
+    def seen(self) -> list[tuple[int, int, bool]]:
+        """The number, pointer and flag of each neighbour."""
+        return [(node, pointer, flag == 1) for node, pointer, flag in RECORD.iter_unpack(self.records)]
 
 
-def view_of(seen: list[Seen]) -> View:
-    seen.sort()
-    return View(seen, b"".join([it[3] for it in seen]))
-
-
-class ViewReader:
-    """Reads the `saw` of moves; `raw` has numbers by names in the spelling of most writers."""
-
-    def __init__(self, rules: str, raw: dict[bytes, int]) -> None:
-        self.has_flags, self.raw = rules == "manne", raw
-        self.spellings: dict[bytes, Seen] = {}
-
-    def usual(self, text: bytes) -> Optional[View]:
-        """The view in the usual spelling, without its brackets; None if it is spelled otherwise, or wrong."""
-        known = self.spellings
-        try:
-            found = [known[part] for part in text.split(b"], ")]
-        except KeyError:
-            made = list(map(self.spelling, text.split(b"], ")))
-            if not all(made):
-                return None
-            found = [it for it in made if it]
-        if len({it[0] for it in found}) < len(found):
-            return None
-        found.sort()
-        return tuple.__new__(View, (found, b"".join([it[3] for it in found])))
-
-    def spelling(self, part: bytes) -> Optional[Seen]:
-        found = SEEN.fullmatch(part)
-        if not found:
-            return None
-        name, target, flag = found.groups()
-        # a whole number is a text among the keys of JSON
-        node, pointer = self.raw.get(name) or self.raw.get(name[1:-1]), self.raw.get(target)
-        if not node or pointer is None or (not flag if self.has_flags else flag == b"true"):
-            return None
-        if len(self.spellings) == MOST_SPELLINGS:
-            self.spellings.clear()
-        seen = (node, pointer, flag == b"true", RECORD.pack(node, pointer, flag == b"true"))
-        self.spellings[part] = seen
-        return seen
-
-    def read(self, line: int, saw: Any, named: Named) -> View:
-        """The view of an object. Raises `BadLine`."""
-        if not isinstance(saw, dict):
-            raise BadLine(line, f'saw is an object, as {{"b": [null, false]}}, and not {spelled(saw)}')
-        found: list[Seen] = []
-        for name, held in saw.items():
-            node = key_number(line, name, named)
-            if not isinstance(held, (list, tuple)) or len(held) not in ((2,) if self.has_flags else (1, 2)):
-                wanted = "[pointer, flag]" if self.has_flags else "[pointer] or [pointer, false]"
-                raise BadLine(line, f"saw has {wanted} of {named.shown(node)}, and not {spelled(held)}")
-            pointer = 0 if held[0] is None else named.number(line, held[0])
-            flag = held[1] if len(held) == 2 else False
-            if flag is not True and flag is not False:
-                raise BadLine(line, f"a flag is true or false, and not {spelled(flag)}")
-            if flag and not self.has_flags:
-                raise BadLine(line, f"saw has a flag of {named.shown(node)}, and there are no flags under hh")
-            found.append((node, pointer, flag, RECORD.pack(node, pointer, flag)))
-        view = view_of(found)
-        for (node, *_), (after, *_) in zip(view.seen, view.seen[1:]):
-            if node == after:
-                raise BadLine(line, f"saw has {named.shown(node)} twice")
-        return view
+def read_view(line: int, saw: Any, named: Named, has_flags: bool) -> View:
+    """The view of an object. Raises `BadLine`."""
+    if not isinstance(saw, dict):
+        raise BadLine(line, f'saw is an object, as {{"b": [null, false]}}, and not {spelled(saw)}')
+    found: list[Seen] = []
+    for name, held in saw.items():
+        node = key_number(line, name, named)
+        if not isinstance(held, (list, tuple)) or len(held) not in ((2,) if has_flags else (1, 2)):
+            wanted = "[pointer, flag]" if has_flags else "[pointer] or [pointer, false]"
+            raise BadLine(line, f"saw has {wanted} of {named.shown(node)}, and not {spelled(held)}")
+        pointer = 0 if held[0] is None else named.number(line, held[0])
+        flag = held[1] if len(held) == 2 else False
+        if flag is not True and flag is not False:
+            raise BadLine(line, f"a flag is true or false, and not {spelled(flag)}")
+        if flag and not has_flags:
+            raise BadLine(line, f"saw has a flag of {named.shown(node)}, and there are no flags under hh")
+        found.append((node, pointer, flag, RECORD.pack(node, pointer, flag)))
+    found.sort()
+    for (node, *_), (after, *_) in zip(found, found[1:]):
+        if node == after:
+            raise BadLine(line, f"saw has {named.shown(node)} twice")
+    return View(b"".join([it[3] for it in found]), None, found)
 
 
 def key_number(line: int, name: Any, named: Named) -> int:
@@ -136,12 +102,14 @@ class ProvedRule:
         self.answer, self.may = answer, may
         self.told = memoryview(answer).cast("B").cast("I")
         self.told_at, self.may_at = ctypes.byref(answer), ctypes.byref(may)
-        self.sizes = [ctypes.c_size_t(size) for size in range(64)]
+        # converted once: a call converts a `c_size_t` each time
+        self.sizes = [ctypes.c_size_t.from_param(size) for size in range(MOST_SIZES)]
 
     def verdict(self, did: Observed, view: View) -> int:
         node, old, new, was, _, wish, written = did
-        seen, records = view
-        size = self.sizes[len(seen)] if len(seen) < 64 else ctypes.c_size_t(len(seen))
+        records = view[0]
+        count = len(records) // RECORD.size
+        size = self.sizes[count] if count < MOST_SIZES else ctypes.c_size_t.from_param(count)
         own = RECORD.pack(node, old, was)
         status = self.local_rule(self.rules, own, records, size, self.told_at)
         if status == NOT_SHOWN:
@@ -172,7 +140,7 @@ class GuardedRule:
 
     def verdict(self, did: Observed, view: View) -> int:
         near = set()
-        for node, pointer, _, _ in view.seen:
+        for node, pointer, _ in view.seen:
             if node == did.node:
                 return -OWN
             if node == pointer:
@@ -194,7 +162,7 @@ def star(rules: str, did: Observed, view: View) -> State:
     """A node with the neighbours that it saw, and its own registers before its move."""
     state = State(rules)
     state.neighbours = {did.node: {node for node, *_ in view.seen} - {did.node}}
-    for node, pointer, flag, _ in view.seen:
+    for node, pointer, flag in view.seen:
         state.neighbours.setdefault(node, {did.node})
         state.point(node, pointer)
         state.flag(node, flag)

@@ -24,7 +24,9 @@ try:
 except ImportError:
     matplotlib = None
 
-HEAD_OF_TABLE = "graph disturbance daemon rules runs min mean median 95% of median 95th max bound steps rounds"
+HEAD_OF_TABLE = (
+    "graph disturbance daemon rules runs min mean median 95% of median 95th max bound steps rounds rounds bound"
+)
 PAIR = "link 1 2\nenabled\nstep 1\nenabled\nstep 2\nmatching\nstatus\n"
 
 
@@ -228,11 +230,12 @@ class Bench(Timed):
             self.assertTrue(0 < least <= median <= most_of <= most <= float(bound) and least <= mean <= most)
             low, high = map(float, words[8].split("-"))
             self.assertTrue(least <= low <= median <= high <= most)
-            steps, rounds = map(float, words[12:])
+            steps, rounds, most_rounds = map(float, words[12:])
             self.assertTrue(0 < rounds <= steps <= most)
+            self.assertEqual(most_rounds, 8 if rules == "hh" else 16)
         lines = said("compare", "--graph", "ring:8", "--seeds", "5", "--daemon", "seeded", "--markdown").splitlines()
         self.assertEqual(len(lines), 4)
-        self.assertEqual({line.count("|") for line in lines}, {15})
+        self.assertEqual({line.count("|") for line in lines}, {16})
         self.assertEqual([cell.strip() for cell in lines[2].split("|")[1:-1]], table[1].split())
 
     def test_worst(self) -> None:
@@ -347,6 +350,9 @@ class Bench(Timed):
                 said("sweep", *words, "--seeds", "2", "--plot", path, "--processes", "1")
             texts = [pathlib.Path(path).read_text(encoding="utf-8") for path in paths]
             self.assertIn("<svg", texts[0])
+            self.assertIn("<!-- moves until silence -->", texts[0])
+            said("compare", *words, "--seeds", "2", "--plot", paths[1], "--plotted", "rounds", "--processes", "1")
+            self.assertIn("<!-- rounds until silence -->", pathlib.Path(paths[1]).read_text(encoding="utf-8"))
         for path, status in (("out.txt", 2), ("/no/such/folder/out.svg", 3)):
             done = rudekpi("sweep", "--graph", "ring:6", "--plot", path)
             self.assertEqual((done.returncode, done.stdout.count("\n") <= 1), (status, True), done.stderr)

@@ -29,8 +29,9 @@ def row(
     n: int = 9,
     moves: int = 4,
     bound: int = 27,
+    rounds: int = 1,
 ) -> Row:
-    return Row(graph, rules, n, 9, daemon, seed, hit, 1, moves, 1, 0, 0, moves, 0, 9, bound, 4, 0.1)
+    return Row(graph, rules, n, 9, daemon, seed, hit, 1, moves, rounds, 0, 0, moves, 0, 9, bound, 4, 0.1)
 
 
 def named(figure: Any) -> dict[str, Any]:
@@ -53,7 +54,13 @@ def bounds_of(axes: Any) -> list[tuple[float, ...]]:
 
 
 def notes_of(axes: Any) -> list[str]:
-    return [it.get_text() for it in axes.texts if it.get_text().startswith("bound")]
+    return [it.get_text() for it in axes.texts if "bound" in it.get_text()]
+
+
+def legend_of(figure: Any) -> list[str]:
+    """The legend's title and words."""
+    [legend] = [it for part in figure.subfigs for it in part.legends]
+    return [legend.get_title().get_text(), *(it.get_text() for it in legend.get_texts())]
 
 
 @unittest.skipUnless(matplotlib, "no matplotlib")
@@ -136,6 +143,34 @@ class Panels(Timed):
             },
         )
 
+    def test_rounds_with_their_bounds(self) -> None:
+        rounds = plots.PLOTTED["rounds"]
+        rows = [row(rounds=3), row(rounds=5, seed=1), row(rules="manne", rounds=8, moves=40)]
+        figure = plots.panels_figure(rows, rounds)
+        [axes] = named(figure).values()
+        self.assertEqual(sorted(height for _, height in runs_of(axes)), [3, 5, 8])
+        # nine nodes: 9 under hh, 2 * 9 - 1 under manne
+        self.assertEqual(bounds_of(axes), [(-0.45, 0.45, 9.0), (0.55, 1.45, 17.0)])
+        self.assertEqual((notes_of(axes), axes.get_ylabel()), ([], "rounds"))
+        self.assertEqual(legend_of(figure), ["rounds until silence", "a run, hh", "a run, manne", "median", "bound"])
+        figure = plots.panels_figure([row(rounds=2), row(rules="manne", rounds=1)], rounds)
+        self.assertEqual(notes_of(named(figure)["ring:9\n5 faults"]), ["bound\n\u2191 9", "bound\n\u2191 17"])
+        self.assertEqual(legend_of(figure)[-1], plots.ABOVE)
+
+    def test_rounds_without_a_bound_are_named(self) -> None:
+        rounds = plots.PLOTTED["rounds"]
+        rows = [row(rounds=30, hit="5 faults, every 2 moves"), row(rounds=4)]
+        for figure in (plots.panels_figure(rows, rounds), plots.growth_figure(rows, rounds)):
+            title, *words = legend_of(figure)
+            self.assertEqual(title, "rounds until silence; no bound: disturbances came one by one")
+            self.assertEqual(words[-1], "bound")
+        panels = named(plots.panels_figure(rows, rounds))
+        self.assertEqual(notes_of(panels["ring:9\n5 faults, every 2 moves"]), ["no\nbound"])
+        self.assertEqual(bounds_of(panels["ring:9\n5 faults, every 2 moves"]), [])
+        self.assertEqual(bounds_of(panels["ring:9\n5 faults"]), [(-0.45, 0.45, 9.0)])
+        # moves have a bound there
+        self.assertEqual(legend_of(plots.panels_figure(rows))[-1], plots.ABOVE)
+
     def test_what_makes_no_plot(self) -> None:
         path = os.path.join(self.folder(), "a.svg")
         for plot in (plots.of_rows, plots.over_graphs):
@@ -144,6 +179,8 @@ class Panels(Timed):
         self.assertRaisesRegex(ValueError, "61 panels", plots.of_rows, many, path)
         self.assertRaisesRegex(ValueError, "61 panels", plots.check, path, 61)
         self.assertRaisesRegex(ValueError, "no name of a picture", plots.check, path + ".txt")
+        for plot in (plots.of_rows, plots.over_graphs):
+            self.assertRaisesRegex(ValueError, "one of moves, rounds, and not 'steps'", plot, many[:6], path, "steps")
         self.assertEqual(os.listdir(os.path.dirname(path)), [])
         plots.check(path, 60)
         plots.of_rows(many[:6], path)

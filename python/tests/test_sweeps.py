@@ -17,9 +17,11 @@ from typing import Any, Generator, Iterable, Iterator, Union
 
 from rudekpi import Enabled, Network, WrongChoice, audits, daemons, disturbances, graphs, sweeps, workers
 from rudekpi.replies import Name
+from rudekpi.rounds import watch_after
 from rudekpi.simple_graph import Graph
 from rudekpi.state import State
 from rudekpi.sweeps import AnyDaemon, Disturbance, Row, sweep
+from rudekpi.traces import Trace, TraceEvent
 from rudekpi.walks import Topology
 from support import Losing, Timed
 
@@ -205,6 +207,23 @@ class Rows(Timed):
         [row] = sweep([graphs.path(3)], ["manne"], ["synchronous"])
         self.assertEqual((row.steps, row.moves, row.rounds, row.pairs), (4, 6, 4, 1))
         self.assertEqual((row.update, row.marry, row.seduce, row.abandon), (2, 1, 2, 1))
+
+    def test_rounds_of_the_engine_are_those_of_the_transcript(self) -> None:
+        trace = Trace("t", (TraceEvent(0, "unlink", ("1", "2")), TraceEvent(1, "link", ("1", "2"))))
+        hits = [Disturbance(), Disturbance(9), Disturbance(6, every=2), Disturbance(2, joins=2, leaves=3, cut=2)]
+        hits += [Disturbance(trace=trace), Disturbance(trace=trace, every=1)]
+        chosen = ["seeded", "least", "greedy", "synchronous"]
+        most = 0
+        for it in sweeps.experiments_of([graphs.complete(7)], ["hh", "manne"], chosen, range(3), hits):
+            played = it.played()
+            row = it.measured(played, 0)
+            with self.subTest(row=row):
+                self.assertEqual(row.rounds, watch_after(played.transcript, played.before.entry).rounds)
+                self.assertEqual(played.rounds, row.rounds if self.engine == "library" else None)
+                if row.most_rounds is not None:
+                    self.assertLessEqual(row.rounds, row.most_rounds)
+                most = max(most, row.rounds)
+        self.assertGreater(most, 7)
 
     def test_the_same_in_every_executor(self) -> None:
         chosen: list[AnyDaemon] = ["seeded", "least", "synchronous", greatest]

@@ -11,8 +11,8 @@ from rudekpi.tables import interval, resampled_median, table_of
 from support import Timed
 
 
-def row(graph: str, moves: int) -> Row:
-    return Row(graph, "hh", 3, 2, "least", 0, "start", moves, moves, 1, 0, 1, 1, 0, 4, 7, 1, 0.1)
+def row(graph: str, moves: int, rules: str = "hh", hit: str = "start") -> Row:
+    return Row(graph, rules, 3, 2, "least", 0, hit, moves, moves, 1, 0, 1, 1, 0, 4, 7, 1, 0.1)
 
 
 class Tables(Timed):
@@ -39,12 +39,23 @@ class Tables(Timed):
     def test_forms(self) -> None:
         rows = [row("a|b", moves) for moves in (2, 4, 4)]
         plain = table_of(rows)
-        self.assertEqual(plain[1].split(), "a|b start least hh 3 2 3.3 4 2-4 4 4 7 4 1".split())
+        self.assertEqual(plain[1].split(), "a|b start least hh 3 2 3.3 4 2-4 4 4 7 4 1 3".split())
         self.assertEqual(len({len(line) for line in plain}), 1)
         marked = table_of(rows, is_markdown=True)
-        self.assertEqual(marked[1], "| --- | --- | --- | --- |" + " ---: |" * 10)
-        self.assertEqual(marked[2], "| a\\|b | start | least | hh | 3 | 2 | 3.3 | 4 | 2-4 | 4 | 4 | 7 | 4 | 1 |")
+        self.assertEqual(marked[1], "| --- | --- | --- | --- |" + " ---: |" * 11)
+        self.assertEqual(marked[2], "| a\\|b | start | least | hh | 3 | 2 | 3.3 | 4 | 2-4 | 4 | 4 | 7 | 4 | 1 | 3 |")
         self.assertEqual(len(table_of([])), 1)
+
+    def test_bounds_of_rounds(self) -> None:
+        # of three nodes: 3 under hh, 2 * 3 - 1 under manne; none if each disturbance begins rounds anew
+        hits = ["start", "2 faults", "1 fault, every 1 move", "2 faults, 3 links cut, every 12 moves"]
+        hits += ["trace t.csv 0123456789abcdef", "2 faults, by groups of a, every 3 moves 0123456789abcdef"]
+        for hit, under_hh, under_manne in zip(hits, "33---3", "55---5"):
+            for rules, bound in (("hh", under_hh), ("manne", under_manne)):
+                with self.subTest(rules, hit=hit):
+                    made = row("a", 2, rules, hit)
+                    self.assertEqual(made.most_rounds, None if bound == "-" else int(bound))
+                    self.assertEqual(table_of([made])[1].split()[-2:], ["1", bound])
 
 
 if __name__ == "__main__":

@@ -540,6 +540,16 @@ class StaleNodes(Timed):
             self.assertTrue(by_views)
             self.assertEqual([(it.node, it.cause, it.text) for it in by_views.findings], [("n17", "unlocked", text)])
 
+    def test_registers_recognised_by_their_text_are_judged_as_those_that_are_read(self) -> None:
+        for rules, seed in (("hh", 1), ("hh", 2), ("manne", 1), ("manne", 2)):
+            lines = STALE_NODES.Net(rules, seed, "guard", 900).run()
+            found, others = (
+                vars(conform(log, rules, views=True, resync=True))
+                for log in ("".join(f"{line}\n" for line in lines), map(json.loads, lines))
+            )
+            self.assertTrue(found["ages"] and found["stale_moves"])
+            self.assertEqual({**found, "first": None}, {**others, "first": None})
+
 
 STALE_NODES = example("stale_nodes")
 

@@ -57,6 +57,12 @@ class LogFull : public std::runtime_error {
     LogFull() : std::runtime_error(rudekpi_status_text(RUDEKPI_LOG_FULL)) {}
 };
 
+/* Rounds are asked for, and the network does not count them: call count_rounds first. */
+class NotCounted : public std::logic_error {
+  public:
+    NotCounted() : std::logic_error(rudekpi_status_text(RUDEKPI_NOT_COUNTED)) {}
+};
+
 /* A line is neither empty nor a command. */
 class BadLine : public std::invalid_argument {
   public:
@@ -156,6 +162,8 @@ inline const std::uint8_t *bytes_of(std::string_view text) {
         throw std::bad_alloc();
     case RUDEKPI_NO_SESSION:
         throw std::logic_error(rudekpi_status_text(status));
+    case RUDEKPI_NOT_COUNTED:
+        throw NotCounted();
     default:
         throw std::invalid_argument(rudekpi_status_text(status));
     }
@@ -281,6 +289,20 @@ class Network {
     }
     std::uint32_t moves_left() {
         return asked<std::uint32_t>([&](auto it) { return rudekpi_moves_left(slot(), it); });
+    }
+    /* Counts rounds from here on, or from here anew. */
+    void count_rounds() {
+        detail::check(rudekpi_count_rounds(slot()));
+    }
+    /* How many rounds are complete since the last accepted edit or fault, or since counting began. Throws
+     * NotCounted before count_rounds. */
+    std::uint32_t rounds() {
+        return asked<std::uint32_t>([&](auto it) { return rudekpi_rounds(slot(), it); });
+    }
+    /* How many rounds can still be completed before the next edit or fault, 0 in silence. Throws NotCounted
+     * before count_rounds. */
+    std::uint32_t rounds_left() {
+        return asked<std::uint32_t>([&](auto it) { return rudekpi_rounds_left(slot(), it); });
     }
     bool is_at_rest(Node node) {
         return asked<bool>([&](auto it) { return rudekpi_is_at_rest(slot(), node, it); });

@@ -73,6 +73,8 @@ pub enum Fault {
     BadArgument,
     /// Line `number` is neither empty nor a command. Nothing changed.
     BadLine { number: u64 },
+    /// Rounds are asked for, and the network does not count them: call `count_rounds` first.
+    NotCounted,
     /// The bytes are no transcript; `line` is the first wrong line, from 1. Nothing was begun.
     Damaged { line: u64, damage: Damage },
 }
@@ -84,6 +86,7 @@ impl fmt::Display for Fault {
             Fault::LogFull => f.write_str("the log is full"),
             Fault::NoMemory => f.write_str("memory was refused"),
             Fault::BadArgument => f.write_str("a number is out of its range"),
+            Fault::NotCounted => f.write_str("rounds are not counted"),
             Fault::BadLine { number } => write!(f, "line {number}: not a command"),
             Fault::Damaged { line, damage } => write!(f, "line {line}: {}", damage.text()),
         }
@@ -106,6 +109,7 @@ pub(crate) fn fault(status: u32) -> Fault {
     match status {
         ffi::LOG_FULL => Fault::LogFull,
         ffi::NO_MEMORY => Fault::NoMemory,
+        ffi::NOT_COUNTED => Fault::NotCounted,
         _ => Fault::BadArgument,
     }
 }

@@ -10,6 +10,7 @@ pub(crate) const REFUSED: u32 = 6;
 pub(crate) const DAMAGED: u32 = 7;
 pub(crate) const NOT_SILENT: u32 = 8;
 pub(crate) const NOT_SHOWN: u32 = 9;
+pub(crate) const NOT_COUNTED: u32 = 10;
 
 /// The rule number of a repair.
 pub(crate) const REPAIR: u32 = 5;
@@ -131,6 +132,9 @@ extern "C" {
     pub(crate) fn rudekpi_edges(slot: *mut Slot, out: *mut Row, room: usize, count: *mut usize) -> u32;
     pub(crate) fn rudekpi_partner(slot: *mut Slot, node: u32, partner: *mut u32) -> u32;
     pub(crate) fn rudekpi_moves_left(slot: *mut Slot, moves: *mut u32) -> u32;
+    pub(crate) fn rudekpi_count_rounds(slot: *mut Slot) -> u32;
+    pub(crate) fn rudekpi_rounds(slot: *mut Slot, rounds: *mut u32) -> u32;
+    pub(crate) fn rudekpi_rounds_left(slot: *mut Slot, left: *mut u32) -> u32;
     pub(crate) fn rudekpi_is_at_rest(slot: *mut Slot, node: u32, rests: *mut bool) -> u32;
     pub(crate) fn rudekpi_cost_of_link(slot: *mut Slot, a: u32, b: u32, cost: *mut u32) -> u32;
     pub(crate) fn rudekpi_cost_of_unlink(slot: *mut Slot, a: u32, b: u32, cost: *mut u32) -> u32;

@@ -193,6 +193,13 @@ impl Network {
     values! {
         /// The most moves that can still come before the next edit or fault, 0 in silence.
         moves_left, rudekpi_moves_left, () -> u32;
+        /// How many rounds are complete since the last accepted edit or fault, or since counting began, in constant
+        /// time. Returns `Fault::NotCounted` before `count_rounds`.
+        rounds, rudekpi_rounds, () -> u32;
+        /// How many rounds can still be completed before the next edit or fault, 0 in silence. Of n nodes, those
+        /// complete and those left are together at most n (Hsu and Huang) or 2n (Manne; 2n - 1 if n is odd).
+        /// Returns `Fault::NotCounted` before `count_rounds`.
+        rounds_left, rudekpi_rounds_left, () -> u32;
         /// Whether a node is at rest: it does not move until an edit or a fault reaches it.
         is_at_rest, rudekpi_is_at_rest, (node: Node) -> bool;
         /// Numbers the entries from 1 again, in the same state, before or after the log is full. Returns how many
@@ -357,6 +364,18 @@ impl Network {
         match unsafe { ffi::rudekpi_session_feed(&mut *self.slot, line.as_ptr(), line.len(), &mut number) } {
             ffi::DONE => Ok(()),
             ffi::BAD_LINE => Err(Fault::BadLine { number }),
+            status => Err(fault(status)),
+        }
+    }
+
+    /// Counts rounds from here on, or from here anew.
+    ///
+    /// A round is the shortest part of a run after which each node that was enabled at its start has moved, or was
+    /// not enabled in some state since. From then on a step costs a look or two more at each neighbour of a mover.
+    /// Returns `Fault::NoMemory` if some nine kilobytes can't be had; then nothing has changed.
+    pub fn count_rounds(&mut self) -> Result<(), Fault> {
+        match unsafe { ffi::rudekpi_count_rounds(&mut *self.slot) } {
+            ffi::DONE => Ok(()),
             status => Err(fault(status)),
         }
     }

@@ -122,6 +122,41 @@ fn silent_costs() {
 }
 
 #[test]
+fn rounds() {
+    // three nodes, each linked with each, that point at each other in a ring
+    let mut net = row(Rules::HsuHuang);
+    assert_eq!((net.link(1, 3), net.point(1, Some(2))), (Ok(3), Ok(4)));
+    assert_eq!((net.point(2, Some(3)), net.point(3, Some(1))), (Ok(5), Ok(6)));
+    assert_eq!(net.rounds(), Err(Fault::NotCounted));
+    assert_eq!(net.rounds_left(), Err(Fault::NotCounted));
+    assert_eq!(Fault::NotCounted.to_string(), "rounds are not counted");
+    assert_eq!(net.count_rounds(), Ok(()));
+    assert_eq!((net.rounds(), net.rounds_left()), (Ok(0), Ok(3)));
+    let longest = [
+        (1, None, 0, 3),
+        (2, None, 1, 2),
+        (2, Some(1), 1, 2),
+        (1, Some(3), 2, 1),
+        (2, None, 3, 0),
+    ];
+    for (node, wish, rounds, left) in longest {
+        net.step(&[Item { node, wish }]).expect("a move");
+        assert_eq!((net.rounds(), net.rounds_left()), (Ok(rounds), Ok(left)));
+    }
+    // an accepted edit begins anew; a refused one does not
+    assert_eq!(
+        net.link(1, 1),
+        Err(Fault::Refused {
+            why: Refusal::SelfLoop,
+            entry: 12
+        })
+    );
+    assert_eq!(net.rounds(), Ok(3));
+    assert_eq!(net.unlink(1, 3), Ok(13));
+    assert_eq!((net.rounds(), net.rounds_left()), (Ok(0), Ok(3)));
+}
+
+#[test]
 fn audits() {
     let mut net = row(Rules::HsuHuang);
     net.checkpoint().expect("a base");

@@ -96,6 +96,29 @@ static void exceptions() {
     expect("moved", other.link(1, 2) == 3);
 }
 
+static void rounds() {
+    /* three nodes, each linked with each, that point at each other in a ring */
+    Network net(Rules::hsu_huang, 3);
+    for (auto [a, b] : {std::pair(1, 2), std::pair(1, 3), std::pair(2, 3)}) net.link(a, b);
+    for (rudekpi::Node node : {1, 2, 3}) net.point(node, node % 3 + 1);
+    throws<rudekpi::NotCounted>("rounds are not counted", [&] { net.rounds(); });
+    throws<rudekpi::NotCounted>("nor are those left", [&] { net.rounds_left(); });
+    net.count_rounds();
+    expect("no round yet", net.rounds() == 0 && net.rounds_left() == 3);
+    struct {
+        rudekpi::Item item;
+        std::uint32_t rounds, left;
+    } const longest[] = {{{1}, 0, 3}, {{2}, 1, 2}, {{2, 1}, 1, 2}, {{1, 3}, 2, 1}, {{2}, 3, 0}};
+    for (const auto &it : longest) {
+        net.step({it.item});
+        expect("the rounds of the longest run", net.rounds() == it.rounds && net.rounds_left() == it.left);
+    }
+    throws<rudekpi::Refused>("a loop", [&] { net.link(1, 1); });
+    expect("a refused edit cuts no round off", net.rounds() == 3);
+    net.unlink(1, 3);
+    expect("an edit does", net.rounds() == 0 && net.rounds_left() == 3);
+}
+
 static void audits() {
     Network net(Rules::hsu_huang, 2);
     net.link(1, 2);
@@ -198,6 +221,7 @@ int main() {
     edits_and_steps();
     reach_and_faults();
     silent_costs();
+    rounds();
     exceptions();
     audits();
     resumptions();

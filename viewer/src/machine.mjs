@@ -22,6 +22,16 @@ export function mostAmong(rules, present) {
   return present < 2 ? 0 : Math.floor((present * present) / 2) + present - 2;
 }
 
+/**
+ * The most rounds between two disturbances among `present` nodes: n under hh; 2n under manne, or 2n - 1 if n is
+ * odd.
+ * @param {RuleName} rules
+ * @param {number} present
+ */
+export function mostRoundsAmong(rules, present) {
+  return rules === "hh" ? present : present + 2 * Math.floor(present / 2);
+}
+
 export class Machine {
   /**
    * A network of the names 1 to `nodes` without edges; the first `present` are present.
@@ -61,6 +71,8 @@ export class Machine {
     this.open = new Int32Array(this.nodes + 1);
     /** @type {(string | null)[]} */
     this.rule = new Array(this.nodes + 1).fill(null);
+    /** @type {Set<number>} */
+    this.enabledNames = new Set();
     this.present = this.openEdges = this.nodeCharges = this.pairCount = this.enabledCount = 0;
     for (let v = 1; v <= this.nodes; v += 1) {
       if (this.pointer[v] !== NOBODY) {
@@ -197,6 +209,10 @@ export class Machine {
     return Math.min(this.bound, mostAmong(this.rules, this.present));
   }
 
+  get mostRounds() {
+    return mostRoundsAmong(this.rules, this.present);
+  }
+
   /** The most moves that can come before the next disturbance: none if no rule is enabled. */
   get movesLeft() {
     return this.enabledCount === 0 ? 0 : Math.min(this.charge, mostAmong(this.rules, this.present));
@@ -205,7 +221,13 @@ export class Machine {
   /** @param {number} v */
   look(v) {
     const rule = this.ruleAt(v);
-    this.enabledCount += (rule ? 1 : 0) - (this.rule[v] ? 1 : 0);
+    if (rule && !this.rule[v]) {
+      this.enabledCount += 1;
+      this.enabledNames.add(v);
+    } else if (!rule && this.rule[v]) {
+      this.enabledCount -= 1;
+      this.enabledNames.delete(v);
+    }
     this.rule[v] = rule;
   }
 

@@ -91,6 +91,7 @@ export class Panel {
       enabled: machine.enabledCount,
       charge: machine.charge,
       spent,
+      rounds: this.replay.valueAt("rounds", number),
       left: this.replay.movesLeft(number),
       bound: this.replay.bound(number),
       epoch: epoch.start === null ? `≤ ${grouped(this.replay.transcript.first)}` : epoch.start,
@@ -99,6 +100,7 @@ export class Panel {
       const place = byId(name);
       place.textContent = typeof value === "number" ? grouped(value) : value;
     }
+    byId("most-rounds").textContent = `≤ ${grouped(this.replay.mostRounds(number))}`;
     byId("bound-by").textContent = this.boundBy(number);
     byId("quiet").textContent = machine.enabledCount === 0 ? "stable, silent" : "not stable";
     byId("quiet").classList.toggle("stable", machine.enabledCount === 0);

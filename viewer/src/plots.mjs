@@ -11,6 +11,8 @@ const MARGIN = {
 };
 // epochs narrower than this many pixels have no bands
 const LEAST_BAND = 2;
+// how high the mark of a round's end is, in pixels
+const MARK = 9;
 
 /**
  * A line's name, which is also its class, and its value after each entry.
@@ -24,12 +26,14 @@ export class Plot {
    * @param {import("./replay.mjs").Replay} replay
    * @param {(number: number) => void} goTo
    * @param {PlotLine[]} lines
+   * @param {boolean} marks whether the ends of rounds are marked
    */
-  constructor(svg, replay, lines, goTo) {
+  constructor(svg, replay, lines, goTo, marks = false) {
     this.svg = svg;
     this.replay = replay;
     this.lines = lines;
     this.goTo = goTo;
+    this.marks = marks;
     this.width = this.height = 0;
     this.first = replay.transcript.first;
     this.last = replay.transcript.last;
@@ -76,6 +80,7 @@ export class Plot {
     this.drawAxes();
     this.stride = strideOf(this.length, this.width - MARGIN.left - MARGIN.right);
     this.lines.forEach((line) => this.drawLine(line));
+    this.drawMarks();
     this.sayStride();
     this.cursor = add(this.svg, "line", { class: "cursor", y1: MARGIN.top - 4, y2: this.height - MARGIN.bottom });
     this.point(this.at ?? this.first);
@@ -114,6 +119,19 @@ export class Plot {
       }
     }
     this.svg.parentElement.classList.toggle("unbanded", this.svg.querySelector(".epoch") === null);
+  }
+
+  /** A mark at each end of a round, if each entry has a place of its own. */
+  drawMarks() {
+    const bottom = this.height - MARGIN.bottom;
+    let path = "";
+    for (let number = this.first + 1; this.marks && this.stride === 1 && number <= this.last; number += 1) {
+      path += this.replay.endsRound(number) ? `M${this.xOf(number).toFixed(1)} ${bottom}v${- MARK}` : "";
+    }
+    if (path !== "") {
+      add(this.svg, "path", { class: "line round", d: path });
+    }
+    this.svg.parentElement.classList.toggle("unmarked", path === "");
   }
 
   drawAxes() {
@@ -157,5 +175,5 @@ export function plotsOf(replay, goTo) {
     { name: "bound", valueAt: (/** @type {number} */ number) => replay.bound(number) },
   ];
   const counts = ["pairs", "enabled"].map((name) => ({ name, valueAt: series(name) }));
-  return [new Plot(graphic("budget"), replay, budget, goTo), new Plot(graphic("counts"), replay, counts, goTo)];
+  return [new Plot(graphic("budget"), replay, budget, goTo, true), new Plot(graphic("counts"), replay, counts, goTo)];
 }

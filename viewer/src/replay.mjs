@@ -1,8 +1,9 @@
 // Replays a transcript once. Keeps the plots' values of every entry, and snapshots at intervals to go back
 // to.
-import {Machine, mostAmong, RULE_SETS} from "./machine.mjs";
+import {Machine, mostAmong, mostRoundsAmong, RULE_SETS} from "./machine.mjs";
 import {carryOut, changes, isPossible} from "./entries.mjs";
 import {lastOf, lastWhere} from "./lists.mjs";
+import {Rounds} from "./rounds.mjs";
 import {movesOf, wordsOf} from "./transcript.mjs";
 
 const SNAPSHOT_BYTES = 64 << 20;
@@ -20,8 +21,8 @@ export class Replay {
     this.weight = RULE_SETS[transcript.rules].weight;
     const places = transcript.length + 1;
     /** @type {Record<string, Int32Array>} */
-    this.series = Object.fromEntries(
-      ["charge", "spent", "nodes", "edges", "pairs", "enabled"].map((name) => [name, new Int32Array(places)]));
+    this.series = Object.fromEntries(["charge", "spent", "rounds", "nodes", "edges", "pairs", "enabled"].map(
+      (name) => [name, new Int32Array(places)]));
     /** @type {number[]} */
     this.disturbances = [];
     // the last entry of each burst: disturbances without moves between them
@@ -31,6 +32,7 @@ export class Replay {
     this.firstMove = null;
     this.lastMove = 0;
     this.moves = 0;
+    this.rounds = new Rounds(this.machine);
     /** @type {Map<number, Link>} */
     this.union = new Map();
     /** @type {{ number: number, state: MachineState }[]} */
@@ -82,10 +84,15 @@ export class Replay {
     if (!isPossible(this.machine, entry)) {
       throw this.transcript.fault(entry.number, "is nothing that the machine does there");
     }
-    carryOut(this.machine, entry);
-    const moves = entry.disturbs ? 0 : movesOf(entry).length;
-    this.moves += moves;
-    return entry.disturbs ? 0 : spent + moves;
+    if (entry.disturbs) {
+      carryOut(this.machine, entry);
+      this.rounds.disturb();
+      return 0;
+    }
+    const moves = movesOf(entry);
+    this.rounds.step(moves.map(({ node }) => node), () => carryOut(this.machine, entry));
+    this.moves += moves.length;
+    return spent + moves.length;
   }
 
   /** Chosen so that all snapshots fit in memory and cost less time than the entries. */
@@ -105,6 +112,7 @@ export class Replay {
     const place = number - this.transcript.first;
     series.charge[place] = machine.charge;
     series.spent[place] = spent;
+    series.rounds[place] = this.rounds.complete;
     series.nodes[place] = machine.present;
     series.edges[place] = machine.edgeCount;
     series.pairs[place] = machine.pairCount;
@@ -140,6 +148,22 @@ export class Replay {
       return 0;
     }
     return Math.min(this.valueAt("charge", number), mostAmong(this.transcript.rules, this.valueAt("nodes", number)));
+  }
+
+  /**
+   * The most rounds that the epoch of an entry may complete.
+   * @param {number} number
+   */
+  mostRounds(number) {
+    return mostRoundsAmong(this.transcript.rules, this.valueAt("nodes", number));
+  }
+
+  /**
+   * Whether a round ends with an entry.
+   * @param {number} number
+   */
+  endsRound(number) {
+    return number > this.transcript.first && this.valueAt("rounds", number) > this.valueAt("rounds", number - 1);
   }
 
   /**

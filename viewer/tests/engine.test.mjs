@@ -7,9 +7,10 @@ import {engineOfPage, program, whatIsMissing} from "./wasm.mjs";
 import {summaryOf} from "../src/rudekpi/audits.mjs";
 import {Session} from "../src/rudekpi/engine.mjs";
 import {Damaged, EngineFault} from "../src/rudekpi/errors.mjs";
+import {changes} from "../src/entries.mjs";
 import {BadLine, Lab, MOST_FAULTS, MOST_TEXT} from "../src/playground/lab.mjs";
 import {Replay} from "../src/replay.mjs";
-import {Transcript} from "../src/transcript.mjs";
+import {movesOf, Transcript} from "../src/transcript.mjs";
 
 const SCRIPTS = Number(process.env.SCRIPTS ?? 200);
 const DAMAGES = 3;
@@ -101,22 +102,47 @@ function shown(machine, spent) {
   };
 }
 
+/**
+ * Follows an entry and returns the complete rounds since the last edit or fault, by their definition: a round
+ * ends once each node that was enabled at its start has moved, or was not enabled since.
+ */
+function followedRounds() {
+  let [rounds, pending] = [0, []];
+  return (entry, enabled) => {
+    if (entry.disturbs) {
+      [rounds, pending] = [0, enabled];
+    } else if (changes(entry)) {
+      const moved = movesOf(entry).map(({ node }) => node);
+      pending = pending.filter((node) => !moved.includes(node) && enabled.includes(node));
+      [rounds, pending] = pending.length > 0 ? [rounds, pending] : [rounds + 1, enabled];
+    }
+    return rounds;
+  };
+}
+
 test(
   "what the page shows of the engine is what its player replays, at each entry of 200 transcripts", { skip },
   async () => {
     const engine = await engineOfPage();
-    let entries = 0;
+    let [entries, most] = [0, 0];
     for (let seed = 1; seed <= 200; seed += 1) {
       const script = scriptOf(seed + 5000);
       const { text } = program(wordsOf(script), script.lines.map((line) => `${line}\n`).join(""));
       const replay = new Replay(new Transcript(text));
       const lab = new Lab(engine, script);
+      const roundsAfter = followedRounds();
       for (let number = 1; number <= replay.transcript.last; number += 1) {
         lab.feed(replay.transcript.entry(number).event);
         const seen = lab.look();
         assert.deepEqual(
           shown(seen, seen.spent), shown(replay.goTo(number), replay.valueAt("spent", number)),
           `seed ${seed}, entry ${number}`);
+        const rounds = roundsAfter(replay.transcript.entry(number), seen.enabledNodes);
+        const left = Math.min(seen.movesLeft, seen.mostRounds - rounds);
+        assert.deepEqual([seen.rounds, seen.roundsLeft], [rounds, left], `seed ${seed}, entry ${number}`);
+        assert.equal(replay.valueAt("rounds", number), rounds, `seed ${seed}, entry ${number}`);
+        assert.equal(replay.mostRounds(number), seen.mostRounds);
+        most = Math.max(most, rounds);
         entries += 1;
       }
       assert.equal(
@@ -124,7 +150,7 @@ test(
         text.replace(/^matching2.*\n(?:(?:base|node|edge) .*\n)*/gm, ""), `seed ${seed}`);
       lab.free();
     }
-    assert.ok(entries > 5000, `${entries} entries`);
+    assert.ok(entries > 5000 && most > 3, `${entries} entries, ${most} rounds`);
   });
 
 const NO_COMMAND = "`no` is no command: they are link, unlink, point, flag, join, leave, step, show, enabled, " +

@@ -12,7 +12,7 @@ const PATH = process.env.RUDEKPI_MJS ?? fileURLToPath(new URL("../../release/rud
 const EXAMPLE = fileURLToPath(new URL("../../examples/javascript/ring.mjs", import.meta.url));
 const SCRIPTS = Number(process.env.SCRIPTS ?? 200);
 const skip = existsSync(PATH) ? whatIsMissing() : `no module at ${PATH}`;
-const { Audit, audit, Damaged, Ended, Network, Refused, RudekpiError, version, Wish } =
+const { Audit, audit, Damaged, Ended, Network, NotCounted, Refused, RudekpiError, version, Wish } =
   skip ? {} : await import(pathToFileURL(PATH));
 
 const TURNED = ["drive", "scramble"];
@@ -241,6 +241,39 @@ test("what an edit or a fault costs, and whom it reaches, by the tables of docs/
   assert.throws(() => net.costOf("step", 1), { name: "RangeError" });
   assert.throws(() => net.costOf("link", 1), { name: "TypeError", message: "link takes 2 words, and not 1" });
   assert.deepEqual([net.isAtRest(3), net.isAtRest(1), net.restless()], [true, true, []]);
+});
+
+test("rounds are counted on request, and begin anew with each edit and fault", { skip }, () => {
+  // three nodes, each linked with each, that point at each other in a ring
+  const net = new Network("hh", 3);
+  [[1, 2], [1, 3], [2, 3]].forEach((ends) => net.link(...ends));
+  [[1, 2], [2, 3], [3, 1]].forEach(([node, target]) => net.point(node, target));
+  for (const ask of [() => net.rounds(), () => net.roundsLeft()]) {
+    assert.throws(ask, new NotCounted());
+  }
+  net.countRounds();
+  const longest = [[1, 0, 3], [2, 1, 2], [new Wish(2, 1), 1, 2], [new Wish(1, 3), 2, 1], [2, 3, 0]];
+  for (const [item, rounds, left] of longest) {
+    net.step([item]);
+    assert.deepEqual([net.rounds(), net.roundsLeft()], [rounds, left]);
+  }
+  assert.throws(() => net.link(1, 1), Refused);
+  assert.equal(net.rounds(), 3);
+  net.unlink(1, 3);
+  assert.deepEqual([net.rounds(), net.roundsLeft()], [0, 3]);
+  assert.throws(() => Network.resume(net.transcript()).rounds(), NotCounted);
+  net.close();
+  assert.throws(() => net.rounds(), { name: "TypeError", message: "the network is closed" });
+});
+
+test("the longest runs of docs/BOUNDS.md have their bounds' rounds", { skip }, () => {
+  for (const [rules, name, most] of [["hh", "reaches_its_bound_hh", 6], ["manne", "most_rounds", 12]]) {
+    const script = readFileSync(new URL(`../../examples/${name}.script`, import.meta.url), "utf8");
+    const net = new Network(rules, 6);
+    net.countRounds();
+    script.trimEnd().split("\n").forEach((line) => told(net, line));
+    assert.deepEqual([net.rounds(), net.roundsLeft()], [most, 0], name);
+  }
 });
 
 test("arguments that are none throw a RangeError or a TypeError, and add no entry", { skip }, () => {

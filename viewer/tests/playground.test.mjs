@@ -96,34 +96,38 @@ test("what happened is told in a sentence", () => {
   assert.equal(toldOf("scramble 9 1"), "1 register scrambled.");
   const place = { textContent: "", classList: { toggle: () => {} } };
   const story = new Story(place);
-  story.goesOn([{ rules: "hh", moves: 12, isSilent: true }], 5);
+  story.goesOn([{ rules: "hh", moves: 12, rounds: 4, isSilent: true }], 5);
   assert.equal(place.textContent, "5 married pairs, and nothing is left to do. Now break something.");
-  story.breaks("unlink 3 7", new Map([["hh", 9]]));
-  story.goesOn([{ rules: "hh", moves: 1, isSilent: false }], 4);
-  assert.equal(place.textContent, "The edge 3 – 7 is cut. Mending: 1 move so far, of at most 9.");
-  story.goesOn([{ rules: "hh", moves: 2, isSilent: true }], 5);
-  assert.equal(place.textContent, "The edge 3 – 7 is cut. Mended in 2 moves; at most 9 could have come.");
+  story.breaks("unlink 3 7", new Map([["hh", { moves: 9, rounds: 7 }]]));
+  story.goesOn([{ rules: "hh", moves: 1, rounds: 0, isSilent: false }], 4);
+  assert.equal(place.textContent, "The edge 3 – 7 is cut. Mending: 1 move and 0 rounds so far, of at most 9 and 7.");
+  story.goesOn([{ rules: "hh", moves: 2, rounds: 1, isSilent: true }], 5);
+  assert.equal(
+    place.textContent, "The edge 3 – 7 is cut. Mended in 2 moves and 1 round; at most 9 and 7 could have come.");
 });
 
 test("of two networks each has its own moves, if the change concerns it", () => {
   const place = { textContent: "", classList: { toggle: () => {} } };
   const story = new Story(place);
-  story.breaks("scramble 1 3", new Map([["hh", 9], ["manne", 1200]]));
-  const at = (hh, manne, isSilent) =>
-    story.goesOn([{ rules: "hh", moves: hh, isSilent: true }, { rules: "manne", moves: manne, isSilent }], 5);
+  story.breaks("scramble 1 3", new Map([["hh", { moves: 9, rounds: 6 }], ["manne", { moves: 1200, rounds: 120 }]]));
+  const at = (hh, manne, isSilent) => story.goesOn(
+    [{ rules: "hh", moves: hh, rounds: 1, isSilent: true }, { rules: "manne", moves: manne, rounds: 2, isSilent }], 5);
   at(1, 4, false);
   assert.equal(
     place.textContent,
-    "3 registers scrambled. Mending: Hsu and Huang 1 move so far, of at most 9; Manne and others 4 moves so far, of at most 1,200.");
+    "3 registers scrambled. Mending: Hsu and Huang 1 move and 1 round so far, of at most 9 and 6; " +
+      "Manne and others 4 moves and 2 rounds so far, of at most 1,200 and 120.");
   at(1, 7, true);
   assert.equal(
     place.textContent,
-    "3 registers scrambled. Mended: Hsu and Huang in 1 move, of at most 9; Manne and others in 7 moves, of at most 1,200.");
+    "3 registers scrambled. Mended: Hsu and Huang in 1 move and 1 round, of at most 9 and 6; " +
+      "Manne and others in 7 moves and 2 rounds, of at most 1,200 and 120.");
   at(0, 0, true);
   assert.equal(place.textContent, "3 registers scrambled. Nobody had to move.");
-  story.breaks("flag 3 0", new Map([["manne", 8]]));
+  story.breaks("flag 3 0", new Map([["manne", { moves: 8, rounds: 5 }]]));
   at(6, 1, true);
-  assert.equal(place.textContent, "The flag of node 3 is 0 now. Mended in 1 move; at most 8 could have come.");
+  assert.equal(
+    place.textContent, "The flag of node 3 is 0 now. Mended in 1 move and 2 rounds; at most 8 and 5 could have come.");
 });
 
 /** The neighbours of each node of a graph. */

@@ -29,11 +29,6 @@ function byModule(words, input) {
   return ended(process.execPath, [PATH, ...words], input);
 }
 
-/** Of a fault, the line that says what is wrong; of more lines, the next says why. */
-function withoutReason({ err, ...rest }) {
-  return {...rest, err: err.replace(/^(! line \d+: not a command\n|! read failed\n)! .*\n$/, "$1") };
-}
-
 /** What the module says of words, without carrying them out. */
 function saidOf(words) {
   try {
@@ -101,7 +96,7 @@ test("random scripts have the program's bytes, faults and statuses", { skip }, (
     const script = scriptOf(seed);
     const input = script.lines.map((line) => `${line}\n`).join("");
     const [mine, its] = [byModule(wordsOf(script), input), ended(PROGRAM, wordsOf(script), input)];
-    assert.deepEqual(withoutReason(mine), withoutReason(its), `seed ${seed}`);
+    assert.deepEqual(mine, its, `seed ${seed}`);
     const [, first, damage] = [input, its.out, its.out.replace(/ok|-/g, (part, at) => (at % 3 === 0 ? "none" : part))];
     for (const text of [first, damage, first.slice(0, -7)]) {
       assert.deepEqual(byModule(["audit"], text), ended(PROGRAM, ["audit"], text), `an audit of seed ${seed}`);
@@ -202,6 +197,44 @@ test("the reasons for lines that are no commands are the Python client's", { ski
   assert.deepEqual(found, wanted);
   const kinds = new Set(wanted.map((why) => why?.replace(/`[^`]*`|\d+/g, "_")));
   assert.ok(kinds.size > 20, `${kinds.size} kinds of reasons`);
+});
+
+test("the program has the module's reason for a bad line", { skip }, () => {
+  const lines = [
+    "quit",
+    "settle",
+    "jink 1 2",
+    "SHOW 1",
+    "show 065",
+    "flag 1 2",
+    "leave 65536",
+    "point 1 --",
+    "step 1>2>3",
+    "step 1 >",
+    "drive 1",
+    "drive 18446744073709551616 1",
+    "scramble 1 1000001",
+    "join 1,2",
+    "matching 1",
+    "12 show 1 = -",
+    "# a comment",
+    "show\t1",
+    " show 1",
+    "show  1",
+    "show 1\r",
+    "\x80",
+    `${"b".repeat(90)} 1`,
+    `step${" 1".repeat(65_536)}`,
+    "1".repeat(MEGABYTE + 1)
+  ];
+  for (const line of lines) {
+    for (const end of ["", "\n", "\nshow 1\n"]) {
+      const input = Buffer.from(`show 1\n${line}${end}`, "latin1");
+      const told = ended(PROGRAM, RUN, input);
+      assert.match(told.err, /^! line 2: not a command\n! [ -~]+\n$/, line.slice(0, 50));
+      assert.deepEqual(told, byModule(RUN, input), line.slice(0, 50));
+    }
+  }
 });
 
 test("a script's fault is told in two lines, of which the second says why", { skip }, () => {

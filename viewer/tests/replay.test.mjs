@@ -76,9 +76,17 @@ for (const { name, text, replay } of replays.filter((found) => found.replay.tran
       const whole = new Replay(new Transcript(`${[...before, ...base, ...base, ...behind].join("\n")}\n`));
       const rest = new Replay(new Transcript(`${[...base, ...behind].join("\n")}\n`));
       assert.deepEqual([whole.transcript.length, rest.transcript.length], [length, length - number]);
+      // a base has no rounds: until the next edit or fault they are counted from there
+      const anew = replay.disturbances.find((each) => each > number) ?? length + 1;
       for (const name of Object.keys(replay.series)) {
+        const from = name === "rounds" ? anew : number;
         assert.deepEqual(whole.series[name], replay.series[name], name);
-        assert.deepEqual(rest.series[name], replay.series[name].slice(number), name);
+        assert.deepEqual(rest.series[name].slice(from - number), replay.series[name].slice(from), name);
+      }
+      for (let at = number; at < anew; at += 1) {
+        const since = replay.valueAt("rounds", at) - replay.valueAt("rounds", number);
+        const fewer = since - rest.valueAt("rounds", at);
+        assert.ok(fewer === 0 || fewer === 1, `entry ${at}: ${since} rounds since the base`);
       }
       assert.deepEqual(whole.edgesEver, replay.edgesEver);
       assert.deepEqual(rest.disturbances, replay.disturbances.filter((each) => each > number));
@@ -256,6 +264,25 @@ test("a long transcript is entered anywhere: the counts are those of a walk from
     reached.recount();
     assert.equal(reached.status(0), statuses[number], `entry ${number}, counted anew`);
   }
+});
+
+test("the longest runs of docs/BOUNDS.md have their bounds' rounds, which begin anew with each edit and fault", () => {
+  for (const [name, most] of [["reaches_its_bound_hh", 6], ["most_rounds", 12]]) {
+    const replay =
+      new Replay(new Transcript(readFileSync(new URL(`../../examples/${name}.transcript`, import.meta.url), "latin1")));
+    const { last } = replay.transcript;
+    assert.deepEqual([replay.valueAt("rounds", last), replay.mostRounds(last)], [most, most], name);
+    const ends = Array.from({ length: last + 1 }, (_, number) => number).filter((number) => replay.endsRound(number));
+    assert.equal(ends.length, most, name);
+  }
+  // three nodes, each linked with each, that point round: once 1 and 2 abandon a round is over; a cut begins anew
+  const lines = [
+    "matching hh 3", "1 link 1 2 = ok", "2 link 1 3 = ok", "3 link 2 3 = ok", "4 point 1 2 = ok", "5 point 2 3 = ok",
+    "6 point 3 1 = ok", "7 step 1 = 1:abandon", "8 step 2 = 2:abandon", "9 step 2>1 = 2:seduce>1",
+    "10 step 1>3 = 1:marry>3", "11 link 1 1 = refused 2 self-loop", "12 unlink 1 3 = ok", ""
+  ];
+  const replay = new Replay(new Transcript(lines.join("\n")));
+  assert.deepEqual([...replay.series.rounds].slice(6), [0, 0, 1, 1, 2, 2, 0]);
 });
 
 const BASE = ["matching2 hh 2", "base 2 spent=1 nodes=2 edges=1", "node 1 2 0", "node 2 - 0", "edge 1 2"];

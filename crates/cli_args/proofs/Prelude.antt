@@ -7,7 +7,7 @@ pub use Rattle.std.proofs.lemmas.Str.Parse.{digit_from_value}
 pub use Rattle.std.specs.Cmp.Derive.{both_true}
 pub use Rattle.std.specs.Fmt.{decimal}
 pub use Rattle.std.specs.List.{list_any}
-pub use Rattle.std.specs.Prelude.{IfOk, ◌≢◌, ◌||◌, ◌^◌, MatchOption, codes, IfSome, pos, is_some, unwrap_or, IfErr}
+pub use Rattle.std.specs.Prelude.{IfOk, ◌≢◌, ◌||◌, ◌&&◌, Bool, not, ◌^◌, MatchOption, codes, IfSome, pos, is_some, unwrap_or, IfErr}
 pub use Rattle.std.specs.Str.Parse.{IsNumeral, digits_value}
 pub use Rattle.std.specs.contracts.prelude.U32FromStr.TheImpl.{ghosts}
 pub use Rattle.clap.proofs.ValueTestLemmas.{Accepts-accepts}
@@ -16,7 +16,8 @@ pub use Rattle.clap.specs.Lexer.{without_minus}
 pub use Rattle.clap.specs.Matches.{ReadsOne, TriesOne, raw_values}
 pub use Rattle.clap.specs.ValueTests.{accepts}
 pub use Rattle.clap.specs.Values.{Accepts, same_text}
-pub use Rattle.clap.specs.Words.{AddsArg, first_of, App, Rule, app_of, rule_of, with_rule, Row, Text, first_value, one_text, rows_of, subcommand_of, takes, all_of, matched_of, HasMatchesOf, subcommand_rows_of, found_of}
+pub use Rattle.clap.specs.Walk.{is_empty, is_free_arg}
+pub use Rattle.clap.specs.Words.{AddsArg, AddsConflicts, first_of, App, Rule, app_of, rule_of, with_rule, Row, Text, first_value, one_text, rows_of, subcommand_of, takes, all_of, matched_of, HasMatchesOf, subcommand_rows_of, found_of}
 pub use Rattle.clap.specs.declared.builder.arg.Arg.{Arg}
 pub use Rattle.clap.specs.declared.builder.command.Command.{Command}
 pub use Rattle.clap.specs.declared.error.Error.{Error}

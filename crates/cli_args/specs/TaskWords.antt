@@ -1,5 +1,5 @@
 -- The tasks of command line words, by clap's definition of how a command reads words.
-use Rattle.std.specs.Prelude.{◌≡◌, ◌≢◌, ◌⊎◌, ℕ, ◌<◌, ◌≤◌, ◌^◌, List, [], ◌∷◌, ◌++◌, map, Option, None, Some, pos, Bool, false, true, codes, if◌then◌else◌, nat_le, unwrap_or}
+use Rattle.std.specs.Prelude.{◌≡◌, ◌≢◌, ◌⊎◌, ℕ, ◌<◌, ◌≤◌, ◌^◌, List, [], ◌∷◌, ◌++◌, map, Option, None, Some, pos, Bool, false, true, codes, is_some, if◌then◌else◌, nat_le, unwrap_or}
 use Rattle.std.specs.Borrow.{Bor}
 use Rattle.std.specs.Fmt.{decimal}
 use Rattle.std.specs.Str.Parse.{IsNumeral, digits_value, without_leading_plus}
@@ -111,6 +111,26 @@ showing_app names = with_subcommand (with_subcommand (judging_app names) picture
 abbrev pub console_app : Names → App
 console_app names = with_subcommand (showing_app names) (storm_app names).top
 
+-- `--from`, which excludes other arguments
+abbrev pub strict_from_rule : Rule
+strict_from_rule = record from_rule { is_free = false }
+
+-- the arguments that `--from` excludes
+abbrev pub without_from : List Text
+without_from = codes "rules" ∷ codes "nodes" ∷ codes "present" ∷ []
+
+-- the subcommand `run`, whose `--from` excludes other arguments
+abbrev pub strict_run_app : Bool → Names → App
+strict_run_app required names = with_rule (with_rule (network_app (new_app (codes "run")) required names) strict_from_rule) file_rule
+
+-- the subcommand `storm`, whose `--from` excludes other arguments
+abbrev pub strict_storm_app : Bool → Names → App
+strict_storm_app required names = with_rule (roaming_app (network_app (new_app (codes "storm")) required names)) strict_from_rule
+
+-- the command with these two subcommands
+abbrev pub strict_app : Bool → Names → App
+strict_app required names = with_subcommand (with_subcommand top_app (strict_run_app required names).top) (strict_storm_app required names).top
+
 -- the text is a number below the limit in decimal; a plus and zeros may come before it
 abbrev pub IsNumber : ℕ → Text → ℕ → Type 0
 IsNumber limit text n = (IsNumeral 10 (without_leading_plus text) × (digits_value 10 (without_leading_plus text) < limit)) × (n ≡ digits_value 10 (without_leading_plus text))
@@ -136,6 +156,11 @@ pub record HoldsRun (found : List Row) (rules : RuleSet) (nodes : ℕ) (present 
 -- the argument is not given
 abbrev pub IsLeftOut : Text → List Row → Type 0
 IsLeftOut id found = first_of id found ≡ None
+
+-- a subcommand was found, and its argument `--from` is given
+abbrev pub has_from : Option (Text × List Row) → Bool
+has_from None = false
+has_from (Some sub) = is_some (first_of (codes "from") sub.1)
 
 -- the values are the file in which an earlier run ended, and this many workers; the file tells the rest
 pub record HoldsResume (found : List Row) (from : Text) (workers : ℕ) : Type 0 where

@@ -1,9 +1,9 @@
 //! The clap command that reads the words.
 
-ghost use Rattle.std.specs.Prelude.{◌≡◌, false, IfOk, codes};
+ghost use Rattle.std.specs.Prelude.{◌≡◌, false, map, IfOk, codes};
 ghost use Rattle.clap.specs.Words.{app_of, new_app, rule_of};
 ghost use Rattle.clap.specs.declared.builder.command.Command.TheViews.{out-Command as fields_of};
-ghost use Rattle.cli_args.specs.TaskWords.{AreRules, Names, console_app, entry_rule, file_rule, filed_app, from_rule, judging_app, network_app, nodes_rule, picture_app, present_rule, roam_rule, roaming_app, rules_rule, run_app, script_rule, showing_app, storm_app, top_app, turns_rule, valued_rule, workers_rule};
+ghost use Rattle.cli_args.specs.TaskWords.{AreRules, Names, console_app, entry_rule, file_rule, filed_app, from_rule, judging_app, network_app, nodes_rule, picture_app, present_rule, roam_rule, roaming_app, rules_rule, run_app, script_rule, showing_app, storm_app, strict_app, strict_from_rule, strict_run_app, strict_storm_app, top_app, turns_rule, valued_rule, without_from, workers_rule};
 
 use crate::help::{
     ABOUT, AUDIT_ABOUT, AUDIT_NOTES, AUDIT_USAGE, ENTRY_HELP, EPOCHS_ABOUT, EPOCHS_NOTES,
@@ -250,32 +250,54 @@ pub(crate) fn command<'a>(alloc: Global) -> Result<Command<'a>, AllocError>
     showing_command(alloc, names)?.subcommand(storm_command(alloc, names)?)
 }
 
-fn strict_from<'a>(alloc: Global) -> Result<Arg<'a>, AllocError> {
+fn strict_from<'a>(alloc: Global) -> Result<Arg<'a>, AllocError>
+    ensures rule { IfOk result (λ from. rule_of from ≡ strict_from_rule) }
+    ensures excluded { IfOk result (λ from. map (λ id. id.now) from.conflicts.items ≡ without_from) }
+    ensures local { IfOk result (λ from. from.global ≡ false) }
+{
     from_arg(alloc)
         .conflicts_with("rules")?
         .conflicts_with("nodes")?
         .conflicts_with("present")
 }
 
-fn strict_run<'a>(alloc: Global, required: bool) -> Result<Command<'a>, AllocError> {
+fn strict_run<'a>(
+    alloc: Global,
+    required: bool,
+    names: &'a [&'a str],
+) -> Result<Command<'a>, AllocError>
+    ensures app { IfOk result (λ run. app_of run ≡ strict_run_app required names.entry) }
+    ensures local { IfOk result (λ run. (fields_of run).has_globals ≡ false) }
+{
     let run = told_command(alloc, "run", RUN_ABOUT, RUN_NOTES);
-    network_command(alloc, run, required, RULES.as_slice())?
+    network_command(alloc, run, required, names)?
         .arg(strict_from(alloc)?)?
         .arg(file_arg(alloc, "SCRIPT", SCRIPT_HELP))
 }
 
-fn strict_storm<'a>(alloc: Global, required: bool) -> Result<Command<'a>, AllocError> {
+fn strict_storm<'a>(
+    alloc: Global,
+    required: bool,
+    names: &'a [&'a str],
+) -> Result<Command<'a>, AllocError>
+    ensures app { IfOk result (λ storm. app_of storm ≡ strict_storm_app required names.entry) }
+    ensures local { IfOk result (λ storm. (fields_of storm).has_globals ≡ false) }
+{
     let storm = told_command(alloc, "storm", STORM_ABOUT, STORM_NOTES);
-    let storm = network_command(alloc, storm, required, RULES.as_slice())?;
+    let storm = network_command(alloc, storm, required, names)?;
     roaming_command(alloc, storm)?.arg(strict_from(alloc)?)
 }
 
 /// The command with `run` and `storm` alone, whose arguments have rules on each other.
 ///
 /// `--from` excludes `--rules`, `--nodes` and `--present`; of these the first two are optional or `required`. The
-/// contracts of clap say nothing of such rules, so this command only gives the text for words that break them.
-pub(crate) fn strict_command<'a>(alloc: Global, required: bool) -> Result<Command<'a>, AllocError> {
+/// contracts of clap say nothing of how such rules are enforced, so this command only gives the text for words
+/// that break them.
+pub(crate) fn strict_command<'a>(alloc: Global, required: bool) -> Result<Command<'a>, AllocError>
+    ensures { IfOk result (λ command. (names : Names) × AreRules names × (app_of command ≡ strict_app required names)) }
+{
+    let names = RULES.as_slice();
     top_command(alloc)
-        .subcommand(strict_run(alloc, required)?)?
-        .subcommand(strict_storm(alloc, required)?)
+        .subcommand(strict_run(alloc, required, names)?)?
+        .subcommand(strict_storm(alloc, required, names)?)
 }

@@ -2,16 +2,16 @@
 
 ghost use Rattle.std.specs.Prelude.{◌≡◌, ◌≢◌, ◌≤◌, ℕ, List, Option, IfOk, IfErr, IfSome, codes, map, unwrap_or};
 ghost use Rattle.std.specs.Borrow.{Bor};
-ghost use Rattle.clap.specs.Words.{Text, kind_of};
+ghost use Rattle.clap.specs.Words.{Text, kind_of, subcommand_rows_of};
 ghost use Rattle.clap.specs.declared.error.kind.ErrorKind.TheVariants.{OutOfMemory};
 ghost use Rattle.rule_machine.specs.declared.rules.RuleSet.{RuleSet};
 ghost use Rattle.cli_args.specs.declared.task.Task.{Task};
 ghost use Rattle.cli_args.specs.declared.task.Task.TheVariants.{Run, Resume, Audit, Picture, Epochs};
 ghost use Rattle.cli_args.specs.Mistake.{IsMistake};
-ghost use Rattle.cli_args.specs.TaskWords.{ParsesTo, AreRoamers, AreWorkers, ResumedStorm, Storm, ParsesAsTask, ParsesOnFile, ReadsFrom, WantsResumeStorm, WantsStorm, audit_file_words, audit_words, epochs_file_words, epochs_words, picture_words, resume_storm_words, resume_words, run_words, usual_resumed_storm};
+ghost use Rattle.cli_args.specs.TaskWords.{ParsesTo, AreRoamers, AreWorkers, ResumedStorm, Storm, ParsesAsTask, ParsesOnFile, ReadsFrom, WantsResumeStorm, WantsStorm, audit_file_words, audit_words, epochs_file_words, epochs_words, has_from, picture_words, resume_storm_words, resume_words, run_words, usual_resumed_storm};
 
 use crate::command::{command, strict_command};
-use crate::task::{Task, asked, input};
+use crate::task::{Task, asked, input, is_given};
 use clap::error::ErrorKind;
 use clap::{ArgMatches, Error};
 use std::alloc::Global;
@@ -26,9 +26,11 @@ pub struct Request<'a> {
     pub file: Option<&'a str>,
 }
 
-fn goes_on(found: &ArgMatches<'_>) -> bool {
+fn goes_on(found: &ArgMatches<'_>) -> bool
+    ensures { result ≡ has_from (subcommand_rows_of found.now) }
+{
     match found.subcommand() {
-        Some((_, inner)) => inner.contains_id("from"),
+        Some((_, inner)) => is_given(inner, "from"),
         None => false,
     }
 }

@@ -16,10 +16,10 @@ use Rattle.script_run.specs.Restarts.{RestartView}
 use Rattle.script_run.specs.declared.fault.RunFault.{RunFault}
 use Rattle.script_run.specs.declared.fault.RunFault.TheVariants as run
 use Rattle.script_run.specs.Outcome.{IsRunOutcome}
-use Rattle.written_text.proofs.Outcomes.{resumed_accepted, run_accepted}
+use Rattle.command_line.proofs.AcceptedOutcomes.{resumed_accepted, run_accepted}
 use Rattle.command_line.specs.ProgramEnds.{TellsOutcome}
+use Rattle.command_line.specs.RunNotes.{TellsRunEnd}
 use Rattle.command_line.specs.Status.{ended_status}
-use Rattle.command_line.specs.ViewEnds.{TellsFault}
 use Rattle.storm_runner.specs.declared.fault.StormFault.{StormFault}
 use Rattle.command_line.specs.FaultText.{run_fault_line}
 use Rattle.command_line.specs.ResumeEnds.{ResumesFile, ResumesStorm, TellsAuditFault, TellsDamage, TellsRunFrom, damaged_line, start_at, storm_from}
@@ -53,7 +53,7 @@ was_ended bytes end (inr failed) = absurd cc
 
 -- the script was run, and what was written is accepted
 pub ran : (input : Option (List ℕ)) (rules : RuleSet) (nodes present limit : ℕ) (ended : Result Unit RunFault) (old new before : WrittenBytes) (after : WriterState) (status : ℕ)
-    → nodes ≤ 65535 → present ≤ nodes → limit ≤ 16777216 → IfSome input (λ script. IsRunOutcome rules nodes present limit script old new ended) → TellsFault before after ended → status ≡ ended_status ended
+    → nodes ≤ 65535 → present ≤ nodes → limit ≤ 16777216 → IfSome input (λ script. IsRunOutcome rules nodes present limit script old new ended) → TellsRunEnd ended before after → status ≡ ended_status ended
     → IfSome input (λ script. TellsOutcome rules nodes present limit script old new before after status)
 ran None rules nodes present limit ended old new before after status few within most outcome told is = tt
 ran (Some script) rules nodes present limit ended old new before after status few within most outcome told is =

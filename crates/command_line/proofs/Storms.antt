@@ -9,7 +9,7 @@ use Rattle.storm_runner.specs.declared.fault.StormFault.TheVariants.{TooManyScri
 use Rattle.storm_runner.specs.FaultText.{end_line}
 use Rattle.storm_runner.specs.Status.{end_status}
 use Rattle.storm_runner.specs.Outcome.{IsResumedStorm, IsStormOutcome, opening_start}
-use Rattle.written_text.proofs.Storms.{resumed_storm_accepted, storm_accepted}
+use Rattle.command_line.proofs.AcceptedStorms.{resumed_storm_accepted, storm_accepted}
 use Rattle.command_line.specs.ViewEnds.{WrittenBytes}
 use Rattle.command_line.specs.StormEnds.{EndsStorm, EndsStormFrom, FailsToOpen, MayAddNote, TellsStormEnd}
 use Rattle.command_line.specs.FileNotes.{AddsNote}

@@ -9,5 +9,8 @@ pub mod ProgramEnds
 pub mod ResumeEnds
 pub mod ReadTexts
 pub mod FileNotes
+pub mod RunNotes
 pub mod FileEnds
 pub mod WriterStates
+pub mod Written
+pub mod StormTexts

@@ -9,7 +9,7 @@ use Rattle.script_run.specs.declared.fault.RunFault.{RunFault}
 use Rattle.script_run.specs.declared.fault.RunFault.TheVariants.{Memory}
 use Rattle.script_run.specs.Outcome.{IsRunOutcome}
 use Rattle.audit_parts.specs.Laws.{IsAcceptedText}
-use Rattle.written_text.specs.Written.{EndsAccepted}
+use Rattle.command_line.specs.Written.{EndsAccepted}
 use Rattle.cli_args.specs.declared.task.Task.{Task}
 use Rattle.cli_args.specs.declared.task.Task.TheVariants as variants
 use Rattle.cli_args.specs.declared.task.Task.TheVariants.{Run, Resume, Audit, Picture, Epochs, ResumeStorm, Show}
@@ -22,6 +22,7 @@ use Rattle.command_line.specs.WriterStates.{WriterState, WritesLine}
 use Rattle.command_line.specs.ViewEnds.{WrittenBytes, ShowsSome, TellsFault, Views}
 use Rattle.command_line.specs.ResumeEnds.{ResumesFile, ResumesStorm}
 use Rattle.command_line.specs.Network.{asked_storm}
+use Rattle.command_line.specs.RunNotes.{TellsRunEnd}
 use Rattle.command_line.specs.StormEnds.{PlaysStorm}
 use Rattle.command_line.specs.CheckResults.{IsVerdict, TellsVerdict, verdict_status}
 
@@ -30,11 +31,12 @@ abbrev pub checked_status : Result CheckEnd RunFault → ℕ
 checked_status (Ok end) = verdict_status end
 checked_status (Err fault) = run_status fault
 
--- The script was run, the writer has its transcript, a fault was reported, and the exit status fits. The auditor
--- accepts what was written; if the writer failed or memory ran out, it accepts a text that begins so.
+-- The script was run, the writer has its transcript, a fault was reported, perhaps with why a line is bad, and
+-- the exit status fits. The auditor accepts what was written; if the writer failed or memory ran out, it accepts
+-- a text that begins so.
 abbrev pub TellsOutcome : RuleSet → ℕ → ℕ → ℕ → List ℕ → WrittenBytes → WrittenBytes → WrittenBytes → WriterState → ℕ → Type 0
 TellsOutcome rules nodes present limit script old new before after status =
-    (ended : Result Unit RunFault) × IsRunOutcome rules nodes present limit script old new ended × EndsAccepted ended IsAcceptedText (Appends old new) (AppendsBeginning old new) × TellsFault before after ended × (status ≡ ended_status ended)
+    (ended : Result Unit RunFault) × IsRunOutcome rules nodes present limit script old new ended × EndsAccepted ended IsAcceptedText (Appends old new) (AppendsBeginning old new) × TellsRunEnd ended before after × (status ≡ ended_status ended)
 
 -- too many nodes for the start are reported, nothing is read, and nothing is written to the writer
 abbrev pub TellsBadPresent : WrittenBytes → WrittenBytes → WrittenBytes → WriterState → ℕ → Type 0

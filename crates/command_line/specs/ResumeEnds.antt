@@ -1,6 +1,6 @@
 -- How a run or a storm ends that goes on where the run of a file ended: what the writers have, and the exit
 -- status.
-use Rattle.std.specs.Prelude.{◌≡◌, ◌⊎◌, ℕ, List, [], ◌++◌, length, max, min, Result, Ok, Err, codes}
+use Rattle.std.specs.Prelude.{◌≡◌, ◌⊎◌, ℕ, List, [], ◌++◌, length, max, min, Result, Ok, Err, None, codes}
 use Rattle.std.specs.Io.KnownBytes.{Appends, Keeps}
 use Rattle.rule_machine.specs.RuleTable.{RuleTable}
 use Rattle.rule_machine.specs.Tables.{table_of}
@@ -13,16 +13,17 @@ use Rattle.script_run.specs.declared.fault.RunFault.{RunFault}
 use Rattle.script_run.specs.declared.fault.RunFault.TheVariants as run
 use Rattle.script_run.specs.Outcome.{EndsFrom}
 use Rattle.audit_parts.specs.Laws.{IsAcceptedText}
-use Rattle.written_text.specs.Written.{EndsAccepted}
+use Rattle.command_line.specs.Written.{EndsAccepted}
 use Rattle.byte_streams.specs.PartialOutput.{AppendsBeginning}
 use Rattle.script_run.specs.Restarts.{RestartView}
 use Rattle.cli_args.specs.TaskWords.{ResumedStorm}
 use Rattle.command_line.specs.declared.verdict.CheckEnd.TheVariants as verdict
 use Rattle.command_line.specs.FileNotes.{TellsUnread}
+use Rattle.command_line.specs.RunNotes.{TellsRunEnd}
 use Rattle.command_line.specs.Status.{ended_status}
 use Rattle.command_line.specs.StormEnds.{PlaysStormFrom}
 use Rattle.command_line.specs.VerdictText.{verdict_line}
-use Rattle.command_line.specs.ViewEnds.{TellsEarly, TellsFault}
+use Rattle.command_line.specs.ViewEnds.{TellsEarly}
 use Rattle.command_line.specs.WriterStates.{WrittenBytes, WriterState, WritesLine}
 
 -- the line of a file's damage: the file's name, and an audit's verdict with its LF
@@ -45,7 +46,7 @@ TellsAuditFault file damage old new before after status = TellsDamage file damag
 -- the script was run from this start, the writer has the text, a fault was reported, and the exit status fits
 abbrev pub TellsRunFrom : RuleTable → ℕ → Progress → List ℕ → WrittenBytes → WrittenBytes → WrittenBytes → WriterState → ℕ → Type 0
 TellsRunFrom t limit start script old new before after status =
-    (ended : Result Unit RunFault) × EndsFrom t limit start script old new ended × TellsFault before after ended × (status ≡ ended_status ended)
+    (ended : Result Unit RunFault) × EndsFrom t limit start script old new ended × TellsRunEnd ended before after × (status ≡ ended_status ended)
 
 -- the end of a transcript as the start of a run, whose text begins with the base there
 abbrev pub start_at : TranscriptEnd → Progress
@@ -54,6 +55,7 @@ start_at end = with_checkpoint (record {
   moment = record { state = end.net.state; spent = end.spent };
   count = end.number;
   text = [];
+  counting = None;
 })
 
 -- The script was run from the end of a transcript, a fault was reported, and the exit status fits. The auditor
@@ -61,7 +63,7 @@ start_at end = with_checkpoint (record {
 -- a text that begins so.
 abbrev pub GoesOnBehind : List ℕ → TranscriptEnd → List ℕ → WrittenBytes → WrittenBytes → WrittenBytes → WriterState → ℕ → Type 0
 GoesOnBehind first end script old new before after status =
-    (ended : Result Unit RunFault) × EndsFrom (table_of end.rules) 16777216 (start_at end) script old new ended × EndsAccepted ended (λ text. IsAcceptedText text × IsAcceptedText (first ++ text)) (Appends old new) (AppendsBeginning old new) × TellsFault before after ended × (status ≡ ended_status ended)
+    (ended : Result Unit RunFault) × EndsFrom (table_of end.rules) 16777216 (start_at end) script old new ended × EndsAccepted ended (λ text. IsAcceptedText text × IsAcceptedText (first ++ text)) (Appends old new) (AppendsBeginning old new) × TellsRunEnd ended before after × (status ≡ ended_status ended)
 
 -- what is done with the audit of a file with these bytes: the run goes on from its end, or a fault is reported
 abbrev pub ResumesAfter : List ℕ → Result TranscriptEnd AuditFault → List ℕ → List ℕ → WrittenBytes → WrittenBytes → WrittenBytes → WriterState → ℕ → Type 0

@@ -7,7 +7,7 @@ use Rattle.storm_runner.specs.declared.fault.StormFault.TheVariants.{Read, Memor
 use Rattle.storm_runner.specs.FaultText.{end_line}
 use Rattle.storm_runner.specs.Outcome.{IsResumedStorm, IsStormOutcome}
 use Rattle.storm_runner.specs.Status.{end_status}
-use Rattle.written_text.specs.StormTexts.{WritesAccepted}
+use Rattle.command_line.specs.StormTexts.{WritesAccepted}
 use Rattle.command_line.specs.FileNotes.{AddsNote}
 use Rattle.command_line.specs.WriterStates.{WrittenBytes, WriterState, WritesLine}
 

@@ -13,6 +13,7 @@
 //! ```
 #![tactic(auto)]
 
+mod accepted;
 mod fault_line;
 mod file_fault;
 mod law;
@@ -21,11 +22,16 @@ mod playing;
 mod playing_on;
 mod program;
 mod resuming;
+mod run_note;
 mod text;
 mod verdict;
 mod verdict_line;
 mod viewing;
 
+pub use accepted::{
+    continued_runs_are_accepted, kept_logs_are_accepted, outcomes_are_accepted, runs_are_accepted,
+    runs_stay_transcripts, sessions_stay_transcripts, storms_are_accepted,
+};
 pub use file_fault::FileFault;
 pub use law::one_verdict;
 pub use program::{start, status, tell, tell_no_words};

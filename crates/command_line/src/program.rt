@@ -26,13 +26,14 @@ use crate::options::network_options;
 use crate::playing::play_storm;
 use crate::playing_on::resume_storm_file;
 use crate::resuming::resume_file;
+use crate::run_note::tell_run;
 use crate::verdict::check;
 use crate::viewing::{draw, list_epochs, show_text};
 use byte_streams::{CountingReader, FailStopWriter};
 use clap::Error;
 use clap::error::ErrorKind;
 use cli_args::{Request, Task, read_words};
-use script_run::{Options, RunFault, run};
+use script_run::{Options, RefusedLine, RunFault, run};
 use std::alloc::{AllocError, Global};
 use std::convert::AsStr;
 use std::fs::File;
@@ -157,9 +158,10 @@ fn run_script<In: Read, Out: Write, Faults: Write, T: Threads + Wait + Sync>(
     ensures status { IsRunStatus result }
     ensures device { result ≡ 3 → IsEnded reader.new.failed reader.new.count ⊎ (writer.new.failed ≡ true) }
 {
-    match run(rt, alloc, reader, writer, options) {
+    let mut refused = RefusedLine::none(alloc);
+    match run(rt, alloc, reader, writer, options, &mut refused) {
         Ok(()) => 0,
-        Err(fault) => tell(fault, faults),
+        Err(fault) => tell_run(alloc, fault, &refused, faults),
     }
 }
 

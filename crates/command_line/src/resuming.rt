@@ -11,11 +11,12 @@ ghost use Rattle.command_line.specs.WriterStates.{heard, WrittenBytes, WritesLin
 
 use crate::file_fault::{FileFault, NotingFile, file_fault, tell_unread};
 use crate::program::tell;
+use crate::run_note::tell_run;
 use crate::verdict::CheckEnd;
 use crate::verdict_line::verdict_line;
 use auditor::{AuditFault, TranscriptEnd, end_of};
 use byte_streams::{CountingReader, FailStopWriter};
-use script_run::{Restart, RunFault, resume};
+use script_run::{RefusedLine, Restart, RunFault, resume};
 use std::alloc::{AllocError, Global};
 use std::fs::File;
 use std::io::{Read, Write};
@@ -141,9 +142,10 @@ fn run_from<In: Read, Out: Write, Faults: Write, T: Threads + Wait + Sync>(
         (Faults.contents faults.old.writer) (heard Faults.contents faults.new) result) }
     ensures status { IsRunStatus result }
 {
-    match resume(rt, alloc, reader, writer, restart) {
+    let mut refused = RefusedLine::none(alloc);
+    match resume(rt, alloc, reader, writer, restart, &mut refused) {
         Ok(()) => 0,
-        Err(fault) => tell(fault, faults),
+        Err(fault) => tell_run(alloc, fault, &refused, faults),
     }
 }
 

@@ -1,5 +1,5 @@
 -- A counter before an entry and after it.
-use Rattle.round_counter.proofs.Prelude.{◌≡◌, ℕ, ◌+◌, ◌≤◌, Bool, true, false, cond, not, ◌&&◌, List, [], ◌∷◌, ◌++◌, append_assoc, length, min, filter, is_some, IsTrue, refl, sym, ap, ◌∙◌, subst, inl, inr, ⊎_elim, arith, and_parts, true≢false, false_from_ne_true, cases_Bool, nil_from_length, IsIn, in_kept, kept_in, is_in, members, names, present, in_names, names_present, Network, State, IsState, Event, Reply, Accepted, Refused, Moves, Shown, EnabledAre, Pairs, Counts, Moved, after_moves, followed, RuleTable, rule_at, enabled_names, Entry, IsLocal, stays_pending, round_turn, rounds_by, rounds_from, rounds_in, RoundCounter, HasCounted, CanCount, start_after, log_after, pending_names}
+use Rattle.round_counter.proofs.Prelude.{◌≡◌, ℕ, ◌+◌, ◌≤◌, Bool, true, false, cond, not, ◌&&◌, List, [], ◌∷◌, ◌++◌, append_assoc, length, min, filter, is_some, IsTrue, refl, sym, ap, ◌∙◌, subst, inl, inr, ⊎_elim, arith, and_parts, true≢false, false_from_ne_true, cases_Bool, nil_from_length, IsIn, in_kept, kept_in, is_in, members, names, present, in_names, names_present, Network, State, IsState, Event, Reply, Accepted, Refused, Moves, Shown, EnabledAre, Pairs, Counts, Moved, after_moves, followed, RuleTable, rule_at, enabled_names, Entry, IsLocal, stays_pending, round_turn, rounds_by, rounds_from, rounds_in, RoundCount, first_count, next_count, RoundCounter, AreEnabledIn, HasCounted, CanCount, count_in, start_after, log_after, pending_names}
 use Rattle.round_counter.proofs.Bits.{member_in, in_member}
 use Rattle.round_counter.proofs.Serving.{is_served, unserved_stays}
 
@@ -30,33 +30,39 @@ on_is t s e v is here =
 
 -- ---- before a step
 
+-- the set has the nodes that were pending
+pub listed : (t : RuleTable) (s : State) (e : List Bool) (old new : RoundCounter) → old.is_new ≡ true → new.is_new ≡ false → new.rounds ≡ old.rounds → ((v : ℕ) → is_in new.pending v ≡ is_in e v) → members e ≡ enabled_names t s → count_in t s new ≡ count_in t s old
+listed t s e old new whole ready rounds same is = λ i. record { rounds = rounds i; pending = pending i }
+  where
+    pending : pending_names t s new ≡ pending_names t s old
+    pending =
+        ap (λ b. cond b (enabled_names t s) (filter (is_in new.pending) (names s.network))) ready
+        ∙ kept_alike (is_in new.pending) (λ v. is_some (rule_at t s v)) (names s.network) (λ v there. same v ∙ on_is t s e v is (names_present s.network v there))
+        ∙ sym (ap (λ b. cond b (enabled_names t s) (filter (is_in old.pending) (names s.network))) whole)
+
 pub begun : (t : RuleTable) (start : State) (log : List Entry) (s : State) (e : List Bool) (old new : RoundCounter) → old.is_new ≡ true → new.is_new ≡ false → new.rounds ≡ old.rounds → ((v : ℕ) → is_in new.pending v ≡ is_in e v) → members e ≡ enabled_names t s → HasCounted t start log s old → HasCounted t start log s new
 begun t start log s e old new whole ready rounds same is it =
-    let pending : pending_names t s new ≡ pending_names t s old =
-    ap (λ b. cond b (enabled_names t s) (filter (is_in new.pending) (names s.network))) ready
-    ∙ kept_alike (is_in new.pending) (λ v. is_some (rule_at t s v)) (names s.network) (λ v there. same v ∙ on_is t s e v is (names_present s.network v there))
-    ∙ sym (ap (λ b. cond b (enabled_names t s) (filter (is_in old.pending) (names s.network))) whole) in
-    record {
+    let both = listed t s e old new whole ready rounds same is in record {
       rounds = rounds ∙ it.rounds;
-      later = λ rest. it.later rest ∙ ap (λ n. n + rounds_from t s (pending_names t s old) rest) (sym rounds) ∙ ap (λ xs. new.rounds + rounds_from t s xs rest) (sym pending);
+      later = λ rest. it.later rest ∙ ap (λ (c : RoundCount). c.rounds + rounds_from t s c.pending rest) (sym both);
       enabled = λ _ v there. on_names t s e v is (sym (same v) ∙ there);
     }
 
 -- ---- after an entry
 
 -- a counter at its beginning
-pub fresh : (t : RuleTable) (s : State) (c : RoundCounter) → c.rounds ≡ 0 → c.is_new ≡ true → HasCounted t s [] s c
-fresh t s c none new = record {
-  rounds = none;
-  later = λ rest. add_zero (rounds_in t s rest) ∙ ap (λ n. n + rounds_in t s rest) (sym none) ∙ ap (λ b. c.rounds + rounds_from t s (cond b (enabled_names t s) (filter (is_in c.pending) (names s.network))) rest) (sym new);
-  enabled = λ runs v there. absurd (true≢false (sym new ∙ runs));
+fresh : (t : RuleTable) (s : State) (c : RoundCounter) → count_in t s c ≡ first_count t s → AreEnabledIn t s c → HasCounted t s [] s c
+fresh t s c is enabled = record {
+  rounds = ap (λ (n : RoundCount). n.rounds) is;
+  later = λ rest. add_zero (rounds_in t s rest) ∙ ap (λ (n : RoundCount). n.rounds + rounds_from t s n.pending rest) (sym is);
+  enabled = enabled;
 }
   where
     add_zero : (n : ℕ) → n ≡ 0 + n
     add_zero n = omega arith
 
 -- an entry that is no disturbance, by what it does to the pending nodes
-one_more : (t : RuleTable) (start : State) (log : List Entry) (s : State) (event : Event) (reply : Reply) (old new : RoundCounter) → HasCounted t start log s old → new.rounds ≡ old.rounds + (rounds_by t (pending_names t s old) reply (followed s event reply)).0 → pending_names t (followed s event reply) new ≡ (rounds_by t (pending_names t s old) reply (followed s event reply)).1 → (new.is_new ≡ false → (v : ℕ) → IsTrue (is_in new.pending v) → IsTrue (present (followed s event reply).network v) × IsTrue (is_some (rule_at t (followed s event reply) v))) → HasCounted t start (log ++ (event, reply) ∷ []) (followed s event reply) new
+one_more : (t : RuleTable) (start : State) (log : List Entry) (s : State) (event : Event) (reply : Reply) (old new : RoundCounter) → HasCounted t start log s old → new.rounds ≡ old.rounds + (rounds_by t (pending_names t s old) reply (followed s event reply)).0 → pending_names t (followed s event reply) new ≡ (rounds_by t (pending_names t s old) reply (followed s event reply)).1 → AreEnabledIn t (followed s event reply) new → HasCounted t start (log ++ (event, reply) ∷ []) (followed s event reply) new
 one_more t start log s event reply old new it rounds pending enabled = record {
   rounds = rounds ∙ end old.rounds (rounds_by t (pending_names t s old) reply (followed s event reply)).0 ∙ sym (it.later ((event, reply) ∷ []));
   later = λ rest. ap (rounds_in t start) (append_assoc log ((event, reply) ∷ []) rest) ∙ it.later ((event, reply) ∷ rest)
@@ -75,19 +81,39 @@ one_more t start log s event reply old new it rounds pending enabled = record {
 add_none : (n : ℕ) → n ≡ n + 0
 add_none n = omega arith
 
+-- the count and the members of the set after an entry
+abbrev pub IsNext : RuleTable → Reply → State → State → RoundCounter → RoundCounter → Type 0
+IsNext t reply s next old new = (count_in t next new ≡ next_count t reply next (count_in t s old)) × AreEnabledIn t next new
+
+-- so the counter has counted the entry too
+pub counted_next : (t : RuleTable) (start : State) (log : List Entry) (s : State) (event : Event) (reply : Reply) (old new : RoundCounter) → IsNext t reply s (followed s event reply) old new → HasCounted t start log s old → HasCounted t (start_after start reply (followed s event reply)) (log_after log event reply) (followed s event reply) new
+counted_next t start log s event Accepted old new (is, enabled) it = fresh t (followed s event Accepted) new is enabled
+counted_next t start log s event (Moves x) old new (is, enabled) it = one_more t start log s event (Moves x) old new it (ap (λ (c : RoundCount). c.rounds) is) (ap (λ (c : RoundCount). c.pending) is) enabled
+counted_next t start log s event (Refused x) old new (is, enabled) it = one_more t start log s event (Refused x) old new it (ap (λ (c : RoundCount). c.rounds) is) (ap (λ (c : RoundCount). c.pending) is) enabled
+counted_next t start log s event (Shown x) old new (is, enabled) it = one_more t start log s event (Shown x) old new it (ap (λ (c : RoundCount). c.rounds) is) (ap (λ (c : RoundCount). c.pending) is) enabled
+counted_next t start log s event (EnabledAre x) old new (is, enabled) it = one_more t start log s event (EnabledAre x) old new it (ap (λ (c : RoundCount). c.rounds) is) (ap (λ (c : RoundCount). c.pending) is) enabled
+counted_next t start log s event (Pairs x) old new (is, enabled) it = one_more t start log s event (Pairs x) old new it (ap (λ (c : RoundCount). c.rounds) is) (ap (λ (c : RoundCount). c.pending) is) enabled
+counted_next t start log s event (Counts x) old new (is, enabled) it = one_more t start log s event (Counts x) old new it (ap (λ (c : RoundCount). c.rounds) is) (ap (λ (c : RoundCount). c.pending) is) enabled
+
+same_count : (t : RuleTable) (s : State) (c : RoundCounter) → count_in t s c ≡ record { rounds = c.rounds + 0; pending = pending_names t s c }
+same_count t s c = ap (λ (n : ℕ). record { rounds = n; pending = pending_names t s c }) (add_none c.rounds)
+
 -- a question, or a refusal
-pub unchanged : (t : RuleTable) (start : State) (log : List Entry) (s : State) (event : Event) (reply : Reply) (c : RoundCounter) → ((moves : List Moved) → reply ≡ Moves moves → ⊥) → (reply ≡ Accepted → ⊥) → HasCounted t start log s c → HasCounted t (start_after start reply (followed s event reply)) (log_after log event reply) (followed s event reply) c
-unchanged t start log s event (Moves moves) c quiet calm it = absurd (quiet moves refl)
-unchanged t start log s event Accepted c quiet calm it = absurd (calm refl)
-unchanged t start log s event (Refused refusal) c quiet calm it = one_more t start log s event (Refused refusal) c c it (add_none c.rounds) refl it.enabled
-unchanged t start log s event (Shown target) c quiet calm it = one_more t start log s event (Shown target) c c it (add_none c.rounds) refl it.enabled
-unchanged t start log s event (EnabledAre nodes) c quiet calm it = one_more t start log s event (EnabledAre nodes) c c it (add_none c.rounds) refl it.enabled
-unchanged t start log s event (Pairs pairs) c quiet calm it = one_more t start log s event (Pairs pairs) c c it (add_none c.rounds) refl it.enabled
-unchanged t start log s event (Counts counts) c quiet calm it = one_more t start log s event (Counts counts) c c it (add_none c.rounds) refl it.enabled
+pub unchanged : (t : RuleTable) (s : State) (event : Event) (reply : Reply) (c : RoundCounter) → ((moves : List Moved) → reply ≡ Moves moves → ⊥) → (reply ≡ Accepted → ⊥) → AreEnabledIn t s c → IsNext t reply s (followed s event reply) c c
+unchanged t s event (Moves moves) c quiet calm was = absurd (quiet moves refl)
+unchanged t s event Accepted c quiet calm was = absurd (calm refl)
+unchanged t s event (Refused refusal) c quiet calm was = (same_count t s c, was)
+unchanged t s event (Shown target) c quiet calm was = (same_count t s c, was)
+unchanged t s event (EnabledAre nodes) c quiet calm was = (same_count t s c, was)
+unchanged t s event (Pairs pairs) c quiet calm was = (same_count t s c, was)
+unchanged t s event (Counts counts) c quiet calm was = (same_count t s c, was)
 
 -- a disturbance
-pub begins_anew : (t : RuleTable) (start : State) (log : List Entry) (s : State) (event : Event) (reply : Reply) (c : RoundCounter) → reply ≡ Accepted → c.rounds ≡ 0 → c.is_new ≡ true → HasCounted t (start_after start reply (followed s event reply)) (log_after log event reply) (followed s event reply) c
-begins_anew t start log s event reply c is none new = subst (λ r. HasCounted t (start_after start r (followed s event r)) (log_after log event r) (followed s event r) c) (sym is) (fresh t (followed s event Accepted) c none new)
+pub begins_anew : (t : RuleTable) (s : State) (event : Event) (reply : Reply) (old c : RoundCounter) → reply ≡ Accepted → c.rounds ≡ 0 → c.is_new ≡ true → IsNext t reply s (followed s event reply) old c
+begins_anew t s event reply old c is none new = subst (λ r. IsNext t r s (followed s event r) old c) (sym is) (begun_anew, λ runs v there. absurd (true≢false (sym new ∙ runs)))
+  where
+    begun_anew : count_in t (followed s event Accepted) c ≡ first_count t (followed s event Accepted)
+    begun_anew = λ i. record { rounds = none i; pending = cond (new i) (enabled_names t (followed s event Accepted)) (filter (is_in c.pending) (names (followed s event Accepted).network)) }
 
 -- ---- a step
 
@@ -134,38 +160,36 @@ first_member (x ∷ xs) some = (x, inl refl)
 
 -- what the entry does to the counter, if the network and the enabled nodes are these then
 abbrev pub Follows : Network → List Bool → Reply → RoundCounter → RoundCounter → Type 0
-Follows net e reply old new = (t : RuleTable) (start : State) (log : List Entry) (s : State) (event : Event) → IsLocal t → IsState s → IsState (followed s event reply) → net ≡ (followed s event reply).network → members e ≡ enabled_names t (followed s event reply) → CanCount reply old → HasCounted t start log s old → HasCounted t (start_after start reply (followed s event reply)) (log_after log event reply) (followed s event reply) new
+Follows net e reply old new = (t : RuleTable) (s : State) (event : Event) → IsLocal t → IsState s → IsState (followed s event reply) → net ≡ (followed s event reply).network → members e ≡ enabled_names t (followed s event reply) → CanCount reply old → AreEnabledIn t s old → IsNext t reply s (followed s event reply) old new
 
 -- a step that leaves none pending
 pub follows_last : (net : Network) (e : List Bool) (reply : Reply) (moves : List Moved) (old new : RoundCounter) → reply ≡ Moves moves → ((u : ℕ) → is_in new.pending u ≡ (is_in old.pending u && not (is_served net e moves u))) → length (members new.pending) ≡ 0 → new.rounds ≡ min (old.rounds + 1) 4294967295 → new.is_new ≡ true → Follows net e reply old new
 follows_last net e reply moves old new at each none more whole = subst (λ r. Follows net e r old new) (sym at) last
   where
     last : Follows net e (Moves moves) old new
-    last t start log s event local good good' same is may it =
+    last t s event local good good' same is may was =
         let room = (may refl).1 in
-        let left = sym (left_are t local s good moves good' e is old (it.enabled (may refl).0) (may refl).0 new.pending (λ u. each u ∙ ap (λ n. is_in old.pending u && not (is_served n e moves u)) same)) in
+        let left = sym (left_are t local s good moves good' e is old (was (may refl).0) (may refl).0 new.pending (λ u. each u ∙ ap (λ n. is_in old.pending u && not (is_served n e moves u)) same)) in
         let turn = ap (round_turn t (after_moves s moves)) (left ∙ none_left new.pending s.network none) in
         let one : new.rounds ≡ old.rounds + 1 = omega (arith, more, room) in
-        one_more t start log s event (Moves moves) old new it
-        (one ∙ ap (λ p. old.rounds + p.0) (sym turn))
-        (ap (λ b. cond b (enabled_names t (after_moves s moves)) (filter (is_in new.pending) (names s.network))) whole ∙ ap (λ p. p.1) (sym turn))
-        (λ runs v there. absurd (true≢false (sym whole ∙ runs)))
+        let rounds = one ∙ ap (λ p. old.rounds + p.0) (sym turn) in
+        let pending = ap (λ b. cond b (enabled_names t (after_moves s moves)) (filter (is_in new.pending) (names s.network))) whole ∙ ap (λ p. p.1) (sym turn) in
+        (λ i. record { rounds = rounds i; pending = pending i }, λ runs v there. absurd (true≢false (sym whole ∙ runs)))
 
 -- a step that leaves one pending
 pub follows_more : (net : Network) (e : List Bool) (reply : Reply) (moves : List Moved) (old new : RoundCounter) → reply ≡ Moves moves → ((u : ℕ) → is_in new.pending u ≡ (is_in old.pending u && not (is_served net e moves u))) → 1 ≤ length (members new.pending) → new.rounds ≡ old.rounds → new.is_new ≡ old.is_new → Follows net e reply old new
 follows_more net e reply moves old new at each some same_rounds same_new = subst (λ r. Follows net e r old new) (sym at) more
   where
     more : Follows net e (Moves moves) old new
-    more t start log s event local good good' same is may it =
+    more t s event local good good' same is may was =
         let ready = (may refl).0 in
         let by = λ (u : ℕ). each u ∙ ap (λ n. is_in old.pending u && not (is_served n e moves u)) same in
-        let left = left_are t local s good moves good' e is old (it.enabled ready) ready new.pending by in
+        let left = left_are t local s good moves good' e is old (was ready) ready new.pending by in
         let first = first_member (members new.pending) some in
         let on = in_member new.pending first.0 first.1 in
-        let here = (left_enabled t local s good moves good' e is old (it.enabled ready) ready new.pending by first.0 on).0 in
+        let here = (left_enabled t local s good moves good' e is old (was ready) ready new.pending by first.0 on).0 in
         let there = in_kept (is_in new.pending) first.0 (names s.network) on (in_names s.network first.0 here) in
         let turn = turn_some t (after_moves s moves) _ first.0 (subst (λ xs. IsIn first.0 xs) left there) in
-        one_more t start log s event (Moves moves) old new it
-        (same_rounds ∙ add_none old.rounds ∙ ap (λ p. old.rounds + p.0) (sym turn))
-        (ap (λ b. cond b (enabled_names t (after_moves s moves)) (filter (is_in new.pending) (names s.network))) (same_new ∙ ready) ∙ left ∙ ap (λ p. p.1) (sym turn))
-        (λ runs v at. left_enabled t local s good moves good' e is old (it.enabled ready) ready new.pending by v at)
+        let rounds = same_rounds ∙ add_none old.rounds ∙ ap (λ p. old.rounds + p.0) (sym turn) in
+        let pending = ap (λ b. cond b (enabled_names t (after_moves s moves)) (filter (is_in new.pending) (names s.network))) (same_new ∙ ready) ∙ left ∙ ap (λ p. p.1) (sym turn) in
+        (λ i. record { rounds = rounds i; pending = pending i }, λ runs v at. left_enabled t local s good moves good' e is old (was ready) ready new.pending by v at)

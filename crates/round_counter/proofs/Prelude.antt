@@ -17,6 +17,7 @@ pub use Rattle.enabled_set.specs.Members.{is_in, members}
 pub use Rattle.graph_store.specs.Rows.{has}
 pub use Rattle.round_laws.proofs.Compare.{kept_in}
 pub use Rattle.round_laws.proofs.Counting.{in_kept}
+pub use Rattle.round_laws.specs.RoundCounts.{RoundCount, first_count, next_count}
 pub use Rattle.round_laws.specs.Rounds.{stays_pending, round_turn, rounds_by, rounds_from, rounds_in}
 pub use Rattle.machine_laws.proofs.Neighbours.{linked_back, linked_present}
 pub use Rattle.machine_laws.proofs.Writes.{pointer-with_pointer_other, flag-with_flag_other}
@@ -33,6 +34,6 @@ pub use Rattle.rule_machine.specs.declared.reply.Reply.{Reply}
 pub use Rattle.rule_machine.specs.declared.reply.Reply.TheVariants.{Accepted, Refused, Moves, Shown, EnabledAre, Pairs, Counts}
 pub use Rattle.rule_machine.specs.Run.{Entry}
 pub use Rattle.rules_api.specs.Target.{SameAt}
-pub use Rattle.round_counter.specs.Counting.{HasCounted, IsLocal, CanCount, is_step, log_after, pending_names, start_after}
+pub use Rattle.round_counter.specs.Counting.{AreEnabledIn, HasCounted, IsLocal, CanCount, count_in, is_step, log_after, pending_names, start_after}
 pub use Rattle.round_counter.specs.declared.counter.RoundCounter.{RoundCounter}
 pub use Rattle.round_counter.specs.Serving.{is_served_by}

@@ -11,6 +11,7 @@ use Rattle.rule_machine.specs.RuleTable.{RuleTable, rule_at, enabled_names}
 use Rattle.rule_machine.specs.Run.{Entry}
 use Rattle.rules_api.specs.Target.{SameAt}
 use Rattle.round_laws.specs.Rounds.{rounds_in, rounds_from}
+use Rattle.round_laws.specs.RoundCounts.{RoundCount}
 use Rattle.round_counter.specs.declared.counter.RoundCounter.{RoundCounter}
 
 -- a guard depends only on the registers of its node and of the node's neighbours
@@ -21,13 +22,20 @@ IsLocal t = (s u : State) (v : ℕ) (act : Act) → IsState s → IsState u → 
 abbrev pub pending_names : RuleTable → State → RoundCounter → List ℕ
 pending_names t s c = cond c.is_new (enabled_names t s) (filter (is_in c.pending) (names s.network))
 
+-- what a counter has counted in state s
+abbrev pub count_in : RuleTable → State → RoundCounter → RoundCount
+count_in t s c = record { rounds = c.rounds; pending = pending_names t s c }
+
+-- if the set is used, its members are enabled nodes of s
+abbrev pub AreEnabledIn : RuleTable → State → RoundCounter → Type 0
+AreEnabledIn t s c = c.is_new ≡ false → (v : ℕ) → IsTrue (is_in c.pending v) → IsTrue (present s.network v) × IsTrue (is_some (rule_at t s v))
+
 -- A log from `start` led to s, and the counter has counted its complete rounds. Whatever entries come next,
 -- the rounds of all together are those counted and those that the pending nodes complete.
 pub record HasCounted (t : RuleTable) (start : State) (log : List Entry) (s : State) (c : RoundCounter) : Type 0 where
   pub rounds : c.rounds ≡ rounds_in t start log
   pub later : (rest : List Entry) → rounds_in t start (log ++ rest) ≡ c.rounds + rounds_from t s (pending_names t s c) rest
-  -- if the set is used, its members are enabled nodes
-  pub enabled : c.is_new ≡ false → (v : ℕ) → IsTrue (is_in c.pending v) → IsTrue (present s.network v) × IsTrue (is_some (rule_at t s v))
+  pub enabled : AreEnabledIn t s c
 
 abbrev pub is_step : Reply → Bool
 is_step (Moves moves) = true

@@ -27,12 +27,14 @@ impl RoundCounter {
     ghost use Rattle.rule_machine.specs.Run.{Entry};
     ghost use Rattle.rule_machine.specs.State.{State, IsState};
     ghost use Rattle.machine_laws.specs.StatesAfterReplies.{followed};
-    ghost use Rattle.round_counter.specs.Counting.{HasCounted, IsLocal, CanCount, is_step, start_after, log_after};
+    ghost use Rattle.round_counter.specs.Counting.{AreEnabledIn, HasCounted, IsLocal, CanCount, count_in, is_step, start_after, log_after};
+    ghost use Rattle.round_laws.specs.RoundCounts.{first_count, next_count};
 
     /// A counter that begins here, with no complete round. It fits a network of any size.
     /// Takes some nine kilobytes. Error: out of memory.
     pub fn new(alloc: Global) -> Result<RoundCounter, Want>
         ensures rounds { IfOk result (λ counter. counter.rounds ≡ 0) }
+        ensures count { IfOk result (λ counter. (t : RuleTable) (s : State) → count_in t s counter ≡ first_count t s) }
         ensures counted { IfOk result (λ counter. (t : RuleTable) (s : State) → HasCounted t s [] s counter) }
     {
         Ok(RoundCounter {
@@ -55,6 +57,7 @@ impl RoundCounter {
     pub fn begin_step(&mut self, enabled: &EnabledSet)
         ensures ready { self.new.is_new ≡ false }
         ensures rounds { self.new.rounds ≡ self.old.rounds }
+        ensures count { (t : RuleTable) (s : State) → members enabled.now ≡ enabled_names t s → count_in t s self.new ≡ count_in t s self.old }
         ensures counted { (t : RuleTable) (start : State) (log : List Entry) (s : State) → members enabled.now ≡ enabled_names t s → HasCounted t start log s self.old → HasCounted t start log s self.new }
     {
         if self.is_new {
@@ -70,6 +73,10 @@ impl RoundCounter {
     /// Cost: for a step, a look or two at each mover and each of its neighbours; else constant.
     pub fn follow(&mut self, reply: &Reply, store: &EdgeStore, enabled: &EnabledSet)
         ensures few { self.new.rounds ≤ self.old.rounds + cond (is_step reply.now) 1 0 }
+        ensures count { (t : RuleTable) (s : State) (event : Event)
+            → IsLocal t → IsState s → IsState (followed s event reply.now) → store.now.network ≡ (followed s event reply.now).network
+            → members enabled.now ≡ enabled_names t (followed s event reply.now) → CanCount reply.now self.old → AreEnabledIn t s self.old
+            → count_in t (followed s event reply.now) self.new ≡ next_count t reply.now (followed s event reply.now) (count_in t s self.old) }
         ensures counted { (t : RuleTable) (start : State) (log : List Entry) (s : State) (event : Event)
             → IsLocal t → IsState s → IsState (followed s event reply.now) → store.now.network ≡ (followed s event reply.now).network
             → members enabled.now ≡ enabled_names t (followed s event reply.now) → CanCount reply.now self.old → HasCounted t start log s self.old

@@ -18,3 +18,4 @@ pub mod ManneSchedule
 pub mod ManneReached
 pub mod Stamps
 pub mod Pieces
+pub mod RoundCounts

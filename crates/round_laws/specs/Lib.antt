@@ -2,3 +2,4 @@ pub mod Rounds
 pub mod LongRuns
 pub mod Stamps
 pub mod Pieces
+pub mod RoundCounts

@@ -1,6 +1,8 @@
 //! Laws of rounds: how many asynchronous rounds a run without a disturbance completes.
 
-ghost use Rattle.std.specs.Prelude.{◌≡◌, ℕ, ◌+◌, ◌*◌, ◌/◌, ◌≤◌, List, []};
+ghost use Rattle.std.specs.Prelude.{◌≡◌, ℕ, ◌+◌, ◌*◌, ◌/◌, ◌≤◌, List, [], ◌∷◌, ◌++◌};
+ghost use Rattle.rule_machine.specs.declared.event.Event.{Event};
+ghost use Rattle.rule_machine.specs.declared.reply.Reply.TheVariants.{Accepted};
 ghost use Rattle.rule_machine.specs.Network.{node_count};
 ghost use Rattle.rule_machine.specs.State.{State, IsState};
 ghost use Rattle.rule_machine.specs.RuleTable.{RuleTable, enabled_names};
@@ -10,7 +12,8 @@ ghost use Rattle.rule_machine.specs.Run.{Entry, Moment, Run};
 ghost use Rattle.charge_laws.specs.ChargeWords.{IsUndisturbed};
 ghost use Rattle.dense_laws.specs.Potential.{unmarried_nodes};
 ghost use Rattle.round_laws.specs.LongRuns.{HasRun};
-ghost use Rattle.round_laws.specs.Pieces.{IsCut};
+ghost use Rattle.round_laws.specs.Pieces.{IsCut, state_from};
+ghost use Rattle.round_laws.specs.RoundCounts.{RoundCount, count_of_log, last_count};
 ghost use Rattle.round_laws.specs.Rounds.{rounds_in};
 ghost use Rattle.round_laws.specs.Stamps.{round_reached};
 
@@ -69,4 +72,13 @@ pub fn rounds_are_pieces()
 /// a new round changes none. Holds for any table of rules.
 pub fn rounds_are_stamped()
     ensures { (t : RuleTable) (s : State) (log : List Entry) → IsUndisturbed log → round_reached t s log ≡ rounds_in t s log + 1 }
+{}
+
+/// A count that is kept entry by entry is the rounds of the entries since the last accepted disturbance.
+///
+/// Without a disturbance it is the rounds since counting began. Holds for any table of rules.
+pub fn rounds_are_counted()
+    ensures whole { (t : RuleTable) (s : State) (log : List Entry) → IsUndisturbed log → (count_of_log t s log).rounds ≡ rounds_in t s log }
+    ensures since { (t : RuleTable) (s : State) (before : List Entry) (event : Event) (log : List Entry) (count : RoundCount) → IsUndisturbed log
+        → (last_count t s (before ++ (event, Accepted) ∷ log) count).rounds ≡ rounds_in t (state_from s (before ++ (event, Accepted) ∷ [])) log }
 {}

@@ -17,4 +17,5 @@ pub mod Partners
 pub mod Renumbering
 pub mod Resumption
 pub mod RowOutput
+pub mod RoundCalls
 pub mod RoundsLeft

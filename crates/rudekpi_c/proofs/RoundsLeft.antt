@@ -1,13 +1,15 @@
 -- How many rounds can still come, from what a run has and from the moves that can still come.
-use Rattle.std.proofs.Common.{◌≡◌, ◌≢◌, ℕ, ◌+◌, ◌-◌, ◌≤◌, min, List, [], ◌∷◌, ◌++◌, filter, sym, ◌∙◌, subst, arith}
+use Rattle.std.proofs.Common.{◌≡◌, ◌≢◌, ℕ, ◌+◌, ◌-◌, ◌≤◌, min, List, [], ◌∷◌, ◌++◌, filter, Option, None, Some, IfSome, refl, sym, ◌∙◌, subst, arith}
 use Rattle.std.proofs.lemmas.List.Elements.{All-append}
 use Rattle.std.proofs.lemmas.List.Sums.{sum_by-cons}
+use Rattle.std.proofs.lemmas.Option.{none-some, same_Some}
 use Rattle.charge_laws.proofs.Runs.{run_lowers}
 use Rattle.charge_laws.specs.ChargeWords.{IsCharged, IsUndisturbed, moves_in, moves_of}
 use Rattle.machine_laws.proofs.LeastMoves.{IsTable}
 use Rattle.machine_laws.proofs.Runs.{runs_end_in_states}
 use Rattle.node_bound.specs.MovesLeft.{BoundsMoves}
 use Rattle.round_laws.proofs.Counting.{answer_followed}
+use Rattle.round_laws.specs.RoundCounts.{RoundCount, rounds_of}
 use Rattle.round_laws.specs.Rounds.{rounds_by, rounds_from, rounds_in, round_turn, stays_pending}
 use Rattle.rule_machine.specs.Answer.{Answers, spent_after}
 use Rattle.rule_machine.specs.RuleTable.{RuleTable, enabled_names}
@@ -18,7 +20,7 @@ use Rattle.rule_machine.specs.declared.reply.Reply.{Reply}
 use Rattle.rule_machine.specs.declared.reply.Reply.TheVariants.{Accepted, Moves}
 use Rattle.step_log.proofs.CountedRounds.{some_moves}
 use Rattle.step_log.specs.Rounds.{HasRounds}
-use Rattle.rudekpi_c.specs.RoundCalls.{BoundsRounds, LeavesRounds}
+use Rattle.rudekpi_c.specs.RoundCalls.{BoundsRounds, LeavesIfCounted, LeavesRounds}
 
 -- one run after another
 run_then : (t : RuleTable) (start middle end : Moment) (some rest : List Entry) → Run t start some middle → Run t middle rest end → Run t start (some ++ rest) end
@@ -46,23 +48,33 @@ rounds_few t start (entry ∷ log) end (next, answers, run) pending =
     subst (λ (u : State). (rounds_by t pending entry.1 u).0 + rounds_from t u (rounds_by t pending entry.1 u).1 log ≤ moves_in (entry ∷ log))
     (sym (answer_followed t start.state start.spent entry.0 entry.1 next answers)) (omega (arith, whole, first, rest))
 
-pub leaves : (t : RuleTable) (weight : ℕ) → IsTable t → IsCharged t weight → (m : Moment) (rounds most moves left : ℕ) → HasRounds t m rounds → BoundsRounds t m.state.network most → BoundsMoves t m.state m.spent moves → (enabled_names t m.state ≡ [] → moves ≡ 0) → left ≡ min (most - rounds) moves → LeavesRounds t m left
-leaves t weight table charged m rounds most moves left has bounds pays quiet is = record {
-  rounds = rounds;
+pub leaves : (t : RuleTable) (weight : ℕ) → IsTable t → IsCharged t weight → (m : Moment) (count : RoundCount) (rounds most moves left : ℕ) → count.rounds ≡ rounds → HasRounds t m count → BoundsRounds t m.state.network most → BoundsMoves t m.state m.spent moves → (enabled_names t m.state ≡ [] → moves ≡ 0) → left ≡ min (most - rounds) moves → LeavesRounds t m count left
+leaves t weight table charged m count rounds most moves left told has bounds pays quiet is = record {
   has = has;
   most = few;
   silent = λ silent. let none = quiet silent in omega (arith, is, none);
 }
   where
-    few : (rest : List Entry) (end : Moment) → Run t m rest end → IsUndisturbed rest → rounds_in t has.start.state (has.log ++ rest) ≤ rounds + left
+    few : (rest : List Entry) (end : Moment) → Run t m rest end → IsUndisturbed rest → rounds_from t m.state count.pending rest ≤ left
     few rest end run calm =
         let good = runs_end_in_states t table has.start has.is_state has.log m has.run in
         let net = (run_lowers t weight table charged m good rest end run calm).1 in
         let whole = bounds has.start has.is_state (has.log ++ rest) end (run_then t has.start m end has.log rest has.run run) (All-append (λ (entry : Entry). entry.1 ≢ Accepted) has.log rest has.calm calm) net in
         let sum = has.later rest in
-        let by_moves = rounds_few t m rest end run has.pending in
+        let by_moves = rounds_few t m rest end run count.pending in
         let paid = pays rest end run calm in
-        omega (arith, whole, sum, by_moves, paid, is)
+        omega (arith, told, whole, sum, by_moves, paid, is)
+
+-- the same, by what a run tells of its rounds
+pub leaves_if : (t : RuleTable) (weight : ℕ) → IsTable t → IsCharged t weight → (m : Moment) (counting : Option RoundCount) (told : Option ℕ) (rounds most moves left : ℕ) → told ≡ rounds_of counting → told ≡ Some rounds → IfSome counting (λ count. HasRounds t m count) → BoundsRounds t m.state.network most → BoundsMoves t m.state m.spent moves → (enabled_names t m.state ≡ [] → moves ≡ 0) → left ≡ min (most - rounds) moves → LeavesIfCounted t m counting (Some left)
+leaves_if t weight table charged m None told rounds most moves left is some has bounds pays quiet least = absurd (none-some rounds (sym is ∙ some))
+leaves_if t weight table charged m (Some count) told rounds most moves left is some has bounds pays quiet least =
+    leaves t weight table charged m count rounds most moves left (same_Some count.rounds rounds (sym is ∙ some)) has bounds pays quiet least
+
+-- without a count nothing is told
+pub none_left : (t : RuleTable) (m : Moment) (counting : Option RoundCount) (told : Option ℕ) → told ≡ rounds_of counting → told ≡ None → LeavesIfCounted t m counting None
+none_left t m None told is none = refl
+none_left t m (Some count) told is none = absurd (none-some count.rounds (sym none ∙ is))
 
 -- a bound by the nodes at the start holds of the network at the end
 pub bounds_by_nodes : (t : RuleTable) (weight : ℕ) → IsTable t → IsCharged t weight → (bound : State → ℕ) → ((s u : State) → s.network ≡ u.network → bound s ≡ bound u) → ((start : Moment) → IsState start.state → (log : List Entry) (end : Moment) → Run t start log end → IsUndisturbed log → rounds_in t start.state log ≤ bound start.state) → (s : State) (most : ℕ) → most ≡ bound s → BoundsRounds t s.network most

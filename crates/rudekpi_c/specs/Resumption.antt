@@ -15,7 +15,7 @@ use Rattle.rudekpi_c.specs.declared.session.Session.{Session}
 
 -- the progress at the end of a transcript's run, with the base there as text
 abbrev pub resumed : TranscriptEnd → Progress
-resumed end = with_checkpoint (record { rules = end.rules; moment = (end_moment end).moment; count = end.number; text = [] })
+resumed end = with_checkpoint (record { rules = end.rules; moment = (end_moment end).moment; count = end.number; text = []; counting = None })
 
 -- a session that goes on from this end, keeps its transcript and has no answer
 pub record GoesOnFrom (end : TranscriptEnd) (session : Session) : Type 0 where

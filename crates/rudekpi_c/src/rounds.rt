@@ -1,13 +1,19 @@
 //! How many rounds are complete, and how many can still come. Asking makes no entry.
 
-ghost use Rattle.std.specs.Prelude.{◌≡◌, IfSome};
+ghost use Rattle.std.specs.Prelude.{◌≡◌, IfSome, OnErr, OnOk, List, Some};
+ghost use Rattle.charge_laws.specs.ChargeWords.{IsUndisturbed};
+ghost use Rattle.round_laws.specs.RoundCounts.{rounds_of};
+ghost use Rattle.round_laws.specs.Rounds.{rounds_in};
 ghost use Rattle.rule_machine.specs.HsuHuang.{hsu_huang};
 ghost use Rattle.rule_machine.specs.Manne.{manne};
+ghost use Rattle.rule_machine.specs.Run.{Entry};
+ghost use Rattle.rule_machine.specs.State.{State};
 ghost use Rattle.rule_machine.specs.Tables.{table_of};
-ghost use Rattle.run_session.specs.Line.{recording_moment};
+ghost use Rattle.run_session.specs.Line.{progress_of, recording_moment};
 ghost use Rattle.step_log.specs.Rounds.{HasRounds};
-ghost use Rattle.rudekpi_c.specs.RoundCalls.{AnswersCounting, AnswersRounds, AnswersRoundsLeft, BoundsRounds, LeavesRounds};
-ghost use Rattle.rudekpi_c.specs.Session.{stands, rules_of};
+ghost use Rattle.rudekpi_c.specs.RoundCalls.{AnswersCounting, AnswersRounds, AnswersRoundsLeft, BoundsRounds, CountsLog, LeavesIfCounted, counted_from};
+ghost use Rattle.rudekpi_c.specs.Session.{limit_of, stands, rules_of};
+ghost use Rattle.rudekpi_c.specs.declared.session.Session.{Session};
 
 use crate::session::{Machine, Session};
 use crate::slot::Slot;
@@ -22,13 +28,16 @@ use run_session::Run;
 use std::alloc::Global;
 
 fn count_rounds<R: Rules>(run: &mut Run<R>, alloc: Global) -> Result<(), Want>
-    ensures { run.new ≡ run.old }
+    ensures ok { OnOk result (progress_of run.new ≡ counted_from R.table (progress_of run.old)) }
+    ensures err { OnErr result (run.new ≡ run.old) }
+    ensures limit { run.new.recorder.limit ≡ run.old.recorder.limit }
 {
     run.recorder.count_rounds(alloc)
 }
 
 fn rounds<R: Rules>(run: &Run<R>) -> Option<u32>
-    ensures { IfSome result (λ rounds. HasRounds R.table (recording_moment run.now.recorder) rounds) }
+    ensures rounds { result ≡ rounds_of run.now.recorder.counting }
+    ensures some { IfSome run.now.recorder.counting (λ count. HasRounds R.table (recording_moment run.now.recorder) count) }
 {
     run.recorder.rounds()
 }
@@ -36,7 +45,7 @@ fn rounds<R: Rules>(run: &Run<R>) -> Option<u32>
 /// At most as many rounds as moves can still come.
 fn rounds_left<R: NodeBound>(run: &mut Run<R>, most: u32) -> Option<u32>
     requires { BoundsRounds R.table run.old.recorder.state.network most }
-    ensures left { IfSome result (λ left. LeavesRounds R.table (recording_moment run.old.recorder) left) }
+    ensures left { LeavesIfCounted R.table (recording_moment run.old.recorder) run.old.recorder.counting result }
     ensures kept { run.new ≡ run.old }
 {
     let Some(rounds) = run.recorder.rounds() else {
@@ -63,7 +72,13 @@ fn most_by_manne(run: &Run<Manne>) -> u32
 
 impl Session {
     fn count_rounds(&mut self, alloc: Global) -> Result<(), Want>
-        ensures { self.new ≡ self.old }
+        ensures ok { OnOk result (stands self.new ≡ counted_from (table_of (rules_of self.old)) (stands self.old)) }
+        ensures err { OnErr result (self.new ≡ self.old) }
+        ensures rules { rules_of self.new ≡ rules_of self.old }
+        ensures limit { limit_of self.new ≡ limit_of self.old }
+        ensures lines { self.new.lines ≡ self.old.lines }
+        ensures keeps { self.new.keeps ≡ self.old.keeps }
+        ensures answer { self.new.answer ≡ self.old.answer }
     {
         match &mut self.machine {
             Machine::Hh(run) => count_rounds(run, alloc),
@@ -72,7 +87,8 @@ impl Session {
     }
 
     fn rounds(&self) -> Option<u32>
-        ensures { IfSome result (λ rounds. HasRounds (table_of (rules_of self.now)) (stands self.now).moment rounds) }
+        ensures rounds { result ≡ rounds_of (stands self.now).counting }
+        ensures some { IfSome (stands self.now).counting (λ count. HasRounds (table_of (rules_of self.now)) (stands self.now).moment count) }
     {
         match &self.machine {
             Machine::Hh(run) => rounds(run),
@@ -81,7 +97,7 @@ impl Session {
     }
 
     fn rounds_left(&mut self) -> Option<u32>
-        ensures left { IfSome result (λ left. LeavesRounds (table_of (rules_of self.old)) (stands self.old).moment left) }
+        ensures left { LeavesIfCounted (table_of (rules_of self.old)) (stands self.old).moment (stands self.old).counting result }
         ensures kept { self.new ≡ self.old }
     {
         match &mut self.machine {
@@ -103,8 +119,7 @@ impl Session {
 /// kilobytes. From then on a step costs a look or two more at each neighbour of a mover.
 #[unsafe(no_mangle)]
 pub extern "C" fn rudekpi_count_rounds(alloc: Global, slot: &mut Slot) -> u32
-    ensures answers { AnswersCounting result slot.old.handle.value }
-    ensures kept { slot.new.handle.value ≡ slot.old.handle.value }
+    ensures { AnswersCounting result slot.old.handle.value slot.new.handle.value }
 {
     let Some(mut session) = slot.take(alloc) else {
         return NO_SESSION;
@@ -123,6 +138,8 @@ pub extern "C" fn rudekpi_count_rounds(alloc: Global, slot: &mut Slot) -> u32
 #[unsafe(no_mangle)]
 pub extern "C" fn rudekpi_rounds(alloc: Global, slot: &mut Slot, rounds: &mut u32) -> u32
     ensures answers { AnswersRounds result rounds.new slot.old.handle.value }
+    ensures exact { (session : Session) (start : State) (log : List Entry) → slot.old.handle.value ≡ Some session → CountsLog session start log
+        → (result ≡ 0) × (rounds.new ≡ rounds_in (table_of (rules_of session)) start log) }
     ensures kept { slot.new.handle.value ≡ slot.old.handle.value }
 {
     *rounds = 0;

@@ -21,9 +21,9 @@ use Rattle.run_session.specs.declared.line_error.LineError.TheVariants.{BadLine,
 abbrev pub recording_moment : Recording → Moment
 recording_moment r = record { state = r.state; spent = r.spent }
 
--- the progress of a run: its rule set, how far its recording has come, and this text
+-- the progress of a run: its rule set, how far its recording has come and what it counts, and this text
 abbrev pub progress : RuleSet → Recording → List ℕ → Progress
-progress rules r text = record { rules = rules; moment = recording_moment r; count = r.len; text = text }
+progress rules r text = record { rules = rules; moment = recording_moment r; count = r.len; text = text; counting = r.counting }
 
 module _ {R : Type 0} where
   -- the progress of a run

@@ -23,6 +23,7 @@ pub use Rattle.run_session.specs.declared.line_error.LineError.{LineError}
 pub use Rattle.run_session.specs.declared.line_error.LineError.TheVariants.{Record}
 pub use Rattle.script_text.proofs.Lengths.{long_says_nothing}
 pub use Rattle.script_text.proofs.LineEnds.{GoesOn, goes_on, line_joined, lines_of-ended, lines_of-last}
+pub use Rattle.round_laws.specs.RoundCounts.{RoundCount}
 pub use Rattle.script_text.specs.Script.{Progress, LineDoes, LinesDo, lines_of, IsBadLine, AppendsEntry, IsFull, EventDoes, TurnDoes, TurnsDo, TurnFills, TurnsFill, with_checkpoint, CommandDoes, CommandFills, MeetsFullLog}
 pub use Rattle.script_text.specs.declared.command.Command.{Command}
 pub use Rattle.script_text.specs.declared.command.Command.TheVariants.{Tell, Drive, Scramble, Checkpoint}

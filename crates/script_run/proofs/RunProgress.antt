@@ -89,7 +89,7 @@ module _ {t : RuleTable} {limit : ℕ} {start : Progress} {old : Option (List �
       → IsReadUpTo t limit start old read [] behind (n + 1) after known
   Stands-line {begun = begun} {rest = rest} {n = n} {now = now} line behind after result h ended e same ends is =
       let line_does = rw (same, is) at ends in
-      let adds = line_adds t limit (begun ++ line) now.rules after.rules now.moment after.moment now.count after.count now.text after.text line_does in record {
+      let adds = line_adds t limit (begun ++ line) now.rules after.rules now.moment after.moment now.count after.count now.counting after.counting now.text after.text line_does in record {
         before = h.before ++ (begun ++ line) ∷ [];
         text = h.text ++ adds.more;
         splits = λ more. h.splits more ∙ ap (λ l. h.before ++ l) (first_line begun line behind rest more h.unended ended e) ∙ sym (append_assoc h.before ((begun ++ line) ∷ []) (lines_of (behind ++ more)));
@@ -97,7 +97,7 @@ module _ {t : RuleTable} {limit : ℕ} {start : Progress} {old : Option (List �
         each = All-push IsLine h.before (begun ++ line) h.each (line_joined begun line h.unended ended);
         unended = tt;
         number = ap (λ m. m + 1) h.number ∙ sym (length-append h.before ((begun ++ line) ∷ []));
-        does = LinesDo-more t limit h.before (begun ++ line) start (at_line now.rules now.moment now.count h.text) _ h.does (adds.leads h.text);
+        does = LinesDo-more t limit h.before (begun ++ line) start (at_line now.rules now.moment now.count now.counting h.text) _ h.does (adds.leads h.text);
         handed = Hands-grown adds.more h.handed adds.grown;
       }
 
@@ -108,7 +108,7 @@ module _ {t : RuleTable} {limit : ℕ} {start : Progress} {old : Option (List �
 
   -- some of what was held is written
   pub Stands-handed : {read begun rest text : List ℕ} {n : ℕ} {now : Progress} {known known' : Option (List ℕ)}
-      → IsReadUpTo t limit start old read begun rest n now known → SplitsOutput known known' now.text text → IsReadUpTo t limit start old read begun rest n (at_line now.rules now.moment now.count text) known'
+      → IsReadUpTo t limit start old read begun rest n now known → SplitsOutput known known' now.text text → IsReadUpTo t limit start old read begun rest n (at_line now.rules now.moment now.count now.counting text) known'
   Stands-handed {text = text} {known = known} {known' = known'} h more = record {
     before = h.before;
     text = h.text;
@@ -127,32 +127,32 @@ module _ {t : RuleTable} {limit : ℕ} {start : Progress} {old : Option (List �
 
   -- the lines so far are the first of all
   Stands-leads : {read begun rest : List ℕ} {n : ℕ} {now : Progress} {known : Option (List ℕ)} (h : IsReadUpTo t limit start old read begun rest n now known)
-      → (more : List ℕ) → LinesLeadTo t limit (lines_of (read ++ more)) start (at_line now.rules now.moment now.count h.text)
+      → (more : List ℕ) → LinesLeadTo t limit (lines_of (read ++ more)) start (at_line now.rules now.moment now.count now.counting h.text)
   Stands-leads {read} {begun} {rest} {n} {now} h more =
-      LeadsTo-before t limit h.before (lines_of (begun ++ (rest ++ more))) (lines_of (read ++ more)) start (at_line now.rules now.moment now.count h.text) (h.splits more) h.does
+      LeadsTo-before t limit h.before (lines_of (begun ++ (rest ++ more))) (lines_of (read ++ more)) start (at_line now.rules now.moment now.count now.counting h.text) (h.splits more) h.does
 
   -- what was held could not be written
   pub Stands-began : {read begun rest : List ℕ} {n : ℕ} {now : Progress} {known : Option (List ℕ)} (known' : Option (List ℕ))
       → IsReadUpTo t limit start old read begun rest n now known → AppendsBeginning known known' now.text
       → (more : List ℕ) → (end : Progress) × LinesLeadTo t limit (lines_of (read ++ more)) start end × AppendsBeginning old known' end.text
   Stands-began {now = now} {known = known} known' h part more =
-      (at_line now.rules now.moment now.count h.text, Stands-leads h more, Hands-begun old known known' h.text now.text h.handed part)
+      (at_line now.rules now.moment now.count now.counting h.text, Stands-leads h more, Hands-begun old known known' h.text now.text h.handed part)
 
   -- the reader failed
   pub Stands-unread : {read begun rest : List ℕ} {n : ℕ} {now : Progress} {known : Option (List ℕ)} → IsReadUpTo t limit start old read begun rest n now known
       → (more : List ℕ) → EndsReading t limit (lines_of (read ++ more)) start old known now.text (Err fault.Read)
-  Stands-unread {now = now} h more = (at_line now.rules now.moment now.count h.text, Stands-leads h more, h.handed)
+  Stands-unread {now = now} h more = (at_line now.rules now.moment now.count now.counting h.text, Stands-leads h more, h.handed)
 
   -- memory was refused, and no text was added
   pub Stands-memory : {read begun rest : List ℕ} {n : ℕ} {now : Progress} {known : Option (List ℕ)} {held : List ℕ} → IsReadUpTo t limit start old read begun rest n now known → held ≡ now.text
       → (more : List ℕ) → EndsReading t limit (lines_of (read ++ more)) start old known held (Err fault.Memory)
   Stands-memory {now = now} {known = known} h kept more =
-      (at_line now.rules now.moment now.count h.text, Stands-leads h more, subst (SplitsOutput old known h.text) (sym kept) h.handed)
+      (at_line now.rules now.moment now.count now.counting h.text, Stands-leads h more, subst (SplitsOutput old known h.text) (sym kept) h.handed)
 
   -- the next line stops the run
   stops : {read begun rest : List ℕ} {n : ℕ} {now : Progress} {known : Option (List ℕ)} {line : List ℕ} {others : List (List ℕ)} (more : List ℕ)
       → (h : IsReadUpTo t limit start old read begun rest n now known) → lines_of (begun ++ (rest ++ more)) ≡ line ∷ others
-      → StopsAtLine t limit (lines_of (read ++ more)) start (n + 1) line (at_line now.rules now.moment now.count h.text)
+      → StopsAtLine t limit (lines_of (read ++ more)) start (n + 1) line (at_line now.rules now.moment now.count now.counting h.text)
   stops {others = others} more h first = record {
     before = h.before;
     behind = others;
@@ -166,8 +166,8 @@ module _ {t : RuleTable} {limit : ℕ} {start : Progress} {old : Option (List �
       → m ≡ n + 1 → IsBadLine line → held ≡ now.text
       → EndsReading t limit (lines_of (read ++ more)) start old known held (Err (fault.BadLine m))
   stops_bad {read} {n = n} {now = now} {known = known} {line = line} more h first same bad kept = (
-    at_line now.rules now.moment now.count h.text,
-    (line, subst (λ k. StopsAtLine t limit (lines_of (read ++ more)) start k line (at_line now.rules now.moment now.count h.text)) (sym same) (stops more h first), bad),
+    at_line now.rules now.moment now.count now.counting h.text,
+    (line, subst (λ k. StopsAtLine t limit (lines_of (read ++ more)) start k line (at_line now.rules now.moment now.count now.counting h.text)) (sym same) (stops more h first), bad),
     subst (SplitsOutput old known h.text) (sym kept) h.handed,
   )
 
@@ -177,9 +177,9 @@ module _ {t : RuleTable} {limit : ℕ} {start : Progress} {old : Option (List �
       → EndsReading t limit (lines_of (read ++ more)) start old known after.text (Err (fault_of stop))
   Stands-stops after (BadLine m) more h first (same, bad, kept) = stops_bad more h first same bad (ap (λ (p : Progress). p.text) kept)
   Stands-stops {n = n} {now = now} {line = line} after (Record LogFull) more h first meets =
-      let adds = meeting_adds t limit line now.rules after.rules now.moment after.moment now.count after.count now.text after.text meets in (
-        at_line after.rules after.moment after.count (h.text ++ adds.more),
-        (n + 1, line, at_line now.rules now.moment now.count h.text, stops more h first, adds.leads h.text),
+      let adds = meeting_adds t limit line now.rules after.rules now.moment after.moment now.count after.count now.counting after.counting now.text after.text meets in (
+        at_line after.rules after.moment after.count after.counting (h.text ++ adds.more),
+        (n + 1, line, at_line now.rules now.moment now.count now.counting h.text, stops more h first, adds.leads h.text),
         Hands-grown adds.more h.handed adds.grown,
       )
   Stands-stops after (Record Memory) more h first kept = Stands-memory h kept more
@@ -209,7 +209,7 @@ module _ {t : RuleTable} {limit : ℕ} {start : Progress} {old : Option (List �
       → EndsReading t limit (lines_of read) start old known now.text (Ok done)
   Last-none {read} {now = now} h none =
       let lines : lines_of (read ++ []) ≡ h.before = h.splits [] ∙ ap (λ l. h.before ++ lines_of (l ++ [])) none ∙ append-nil h.before in
-      (at_line now.rules now.moment now.count h.text, subst (λ l. LinesDo t limit l start (at_line now.rules now.moment now.count h.text)) (sym lines ∙ ap lines_of (append-nil read)) h.does, h.handed)
+      (at_line now.rules now.moment now.count now.counting h.text, subst (λ l. LinesDo t limit l start (at_line now.rules now.moment now.count now.counting h.text)) (sym lines ∙ ap lines_of (append-nil read)) h.does, h.handed)
 
   -- it ends after a line that was carried out
   pub Last-whole : {read begun : List ℕ} {n : ℕ} {now : Progress} {known : Option (List ℕ)} {done ended : Unit} (after : Progress) (carried : Result Unit LineError) → IsReadUpTo t limit start old read begun [] n now known → (begun ≡ [] → ⊥)
@@ -217,11 +217,11 @@ module _ {t : RuleTable} {limit : ℕ} {start : Progress} {old : Option (List �
       → EndsReading t limit (lines_of read) start old known after.text (Ok ended)
   Last-whole {read = read} {begun = begun} {n = n} {now = now} after carried h some ends is =
       let does = subst (LineEndsWhole t limit (n + 1) begun now after) is ends in
-      let adds = line_adds t limit begun now.rules after.rules now.moment after.moment now.count after.count now.text after.text does in
+      let adds = line_adds t limit begun now.rules after.rules now.moment after.moment now.count after.count now.counting after.counting now.text after.text does in
       let lines : lines_of (read ++ []) ≡ h.before ++ begun ∷ [] = h.splits [] ∙ ap (λ l. h.before ++ l) (last_line begun h.unended some) in
-      let all = LinesDo-more t limit h.before begun start (at_line now.rules now.moment now.count h.text) (at_line after.rules after.moment after.count (h.text ++ adds.more)) h.does (adds.leads h.text) in (
-        at_line after.rules after.moment after.count (h.text ++ adds.more),
-        subst (λ l. LinesDo t limit l start (at_line after.rules after.moment after.count (h.text ++ adds.more))) (sym lines ∙ ap lines_of (append-nil read)) all,
+      let all = LinesDo-more t limit h.before begun start (at_line now.rules now.moment now.count now.counting h.text) (at_line after.rules after.moment after.count after.counting (h.text ++ adds.more)) h.does (adds.leads h.text) in (
+        at_line after.rules after.moment after.count after.counting (h.text ++ adds.more),
+        subst (λ l. LinesDo t limit l start (at_line after.rules after.moment after.count after.counting (h.text ++ adds.more))) (sym lines ∙ ap lines_of (append-nil read)) all,
         Hands-grown adds.more h.handed adds.grown,
       )
 
@@ -278,7 +278,7 @@ module _ {t : RuleTable} {limit : ℕ} {start : Progress} {old : Option (List �
   Came-none a none first = record { read = []; used = Consumes-nil a; stands = moved_on none first Stands-none }
 
   module _ {a b : Option (List ℕ)} {begun : List ℕ} {n : ℕ} {now : Progress} {known : Option (List ℕ)} (h : Came t limit start old a b begun n now known) where
-    pub Came-handed : {text : List ℕ} {known' : Option (List ℕ)} → SplitsOutput known known' now.text text → Came t limit start old a b begun n (at_line now.rules now.moment now.count text) known'
+    pub Came-handed : {text : List ℕ} {known' : Option (List ℕ)} → SplitsOutput known known' now.text text → Came t limit start old a b begun n (at_line now.rules now.moment now.count now.counting text) known'
     Came-handed handed = record { read = h.read; used = h.used; stands = Stands-handed h.stands handed }
 
     -- the writer failed
@@ -295,7 +295,7 @@ module _ {t : RuleTable} {limit : ℕ} {start : Progress} {old : Option (List �
       lines = h.stands.before;
       begun = begun;
       whole = record { joined = h.stands.joined ∙ ap (λ l. ended_text h.stands.before ++ l) (append-nil begun); each = h.stands.each; unended = h.stands.unended };
-      end = at_line now.rules now.moment now.count h.stands.text;
+      end = at_line now.rules now.moment now.count now.counting h.stands.text;
       does = h.stands.does;
       holds = h.stands.handed;
     }

@@ -20,7 +20,7 @@ pub record IsReadUpTo (t : RuleTable) (limit : ℕ) (start : Progress) (old : Op
   pub each : All IsLine before
   pub unended : IsLine begun
   pub number : n ≡ length before
-  pub does : LinesDo t limit before start (record { rules = now.rules; moment = now.moment; count = now.count; text = text })
+  pub does : LinesDo t limit before start (record { rules = now.rules; moment = now.moment; count = now.count; text = text; counting = now.counting })
   pub handed : SplitsOutput old known text now.text
 
 -- a piece was carried out up to the line that it begins; or the run ends in the piece, whatever bytes follow

@@ -1,5 +1,5 @@
 -- Where a run or a storm goes on.
-use Rattle.std.specs.Prelude.{ℕ, []}
+use Rattle.std.specs.Prelude.{ℕ, [], None}
 use Rattle.rule_machine.specs.declared.rules.RuleSet.{RuleSet}
 use Rattle.rule_machine.specs.Network.{node_count}
 use Rattle.rule_machine.specs.State.{State}
@@ -24,7 +24,7 @@ restart_of r = record { rules = r.rules; state = r.net.state; spent = r.spent; n
 
 -- the progress of a run that goes on: the moment reached, the number of entries, and the base as text
 abbrev pub restarted : Restart → Progress
-restarted r = with_checkpoint (record { rules = r.rules; moment = record { state = r.net.state; spent = r.spent }; count = r.number; text = [] })
+restarted r = with_checkpoint (record { rules = r.rules; moment = record { state = r.net.state; spent = r.spent }; count = r.number; text = []; counting = None })
 
 -- the options of a run on the restart's network: its names, and its nodes as those at the start
 abbrev pub options_at : RestartView → OptionsView

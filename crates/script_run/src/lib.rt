@@ -8,7 +8,8 @@
 //! ```rust
 //! let Some(options) = Options::new(RuleSet::Hh, 2) else { return Err(..) };
 //! let (mut reader, mut writer) = (CountingReader::new(stdin), FailStopWriter::new(stdout));
-//! run(rt, alloc, &mut reader, &mut writer, &options.with_workers(4))?;      // `RunFault`
+//! let mut refused = RefusedLine::none(alloc);
+//! run(rt, alloc, &mut reader, &mut writer, &options.with_workers(4), &mut refused)?;      // `RunFault`
 //! ```
 #![tactic(auto)]
 
@@ -16,6 +17,7 @@ mod fault;
 mod options;
 mod piece;
 mod reading;
+mod refused_line;
 mod restart;
 mod resumption;
 mod runner;
@@ -25,6 +27,7 @@ mod writing;
 
 pub use fault::RunFault;
 pub use options::Options;
+pub use refused_line::RefusedLine;
 pub use restart::Restart;
 pub use resumption::resume;
 pub use rule_machine::RuleSet;

@@ -77,6 +77,7 @@ impl<R: Rules + Sync> Run<R> {
         }
         if reading.begun.len() + rest.len() > MAX_LINE {
             let line = reading.lines + 1;
+            self.refused.keep_long(&reading.begun, rest);
             return Err(RunFault::BadLine { line });
         }
         match reading.begun.extend_from_slice(rest) {

@@ -10,7 +10,7 @@ ghost use Rattle.script_run.specs.Restarts.{restarted};
 ghost use Rattle.script_run.specs.WholeLines.{DoesWholeLines};
 
 use crate::runner::{Run, play};
-use crate::{Restart, RunFault};
+use crate::{RefusedLine, Restart, RunFault};
 use byte_streams::{CountingReader, FailStopWriter};
 use rule_engine::Net;
 use rule_machine::RuleSet;
@@ -30,6 +30,7 @@ fn resume_on<R: Rules + Sync, In: Read, Out: Write, T: Threads + Wait + Sync>(
     reader: &mut CountingReader<In>,
     writer: &mut FailStopWriter<Out>,
     restart: Restart,
+    refused: &mut RefusedLine,
 ) -> Result<(), RunFault>
     requires table { table_of restart.rules ≡ R.table }
     requires weight { weight_of restart.rules ≡ R.NODE_WEIGHT }
@@ -58,7 +59,12 @@ fn resume_on<R: Rules + Sync, In: Read, Out: Write, T: Threads + Wait + Sync>(
     let Ok(line) = LineRun::resume(alloc, rules, recorder) else {
         return Err(RunFault::Memory);
     };
-    play(rt, alloc, Run { line, workers }, reader, writer)
+    let run = Run {
+        line,
+        workers,
+        refused: RefusedLine::none(alloc),
+    };
+    play(rt, alloc, run, reader, writer, refused)
 }
 
 /// Goes on with a run: carries out the lines of a script in turn, and writes the transcript.
@@ -66,13 +72,14 @@ fn resume_on<R: Rules + Sync, In: Read, Out: Write, T: Threads + Wait + Sync>(
 /// The transcript begins with the base of the network. Its first entry has the number after the restart's last
 /// one. So the transcript up to the restart, with this one appended, is the transcript of one run.
 ///
-/// Errors are those of `run`. Takes what `run` takes, and memory for the base.
+/// Errors are those of `run`, and `refused` is as after `run`. Takes what `run` takes, and memory for the base.
 pub fn resume<In: Read, Out: Write, T: Threads + Wait + Sync>(
     rt: &T,
     alloc: Global,
     reader: &mut CountingReader<In>,
     writer: &mut FailStopWriter<Out>,
     restart: Restart,
+    refused: &mut RefusedLine,
 ) -> Result<(), RunFault>
     ensures outcome { IfSome (In.remaining reader.old.reader) (λ script.
         EndsFrom (table_of restart.rules) restart.limit (restarted restart) script
@@ -84,7 +91,11 @@ pub fn resume<In: Read, Out: Write, T: Threads + Wait + Sync>(
     ensures unwritten { IsErrOf result Unwritten → writer.new.failed ≡ true }
 {
     match restart.rules {
-        RuleSet::Hh => resume_on::<HsuHuang, In, Out, T>(rt, alloc, reader, writer, restart),
-        RuleSet::Manne => resume_on::<Manne, In, Out, T>(rt, alloc, reader, writer, restart),
+        RuleSet::Hh => resume_on::<HsuHuang, In, Out, T>(
+            rt, alloc, reader, writer, restart, refused,
+        ),
+        RuleSet::Manne => resume_on::<Manne, In, Out, T>(
+            rt, alloc, reader, writer, restart, refused,
+        ),
     }
 }

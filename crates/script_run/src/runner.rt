@@ -15,7 +15,7 @@ ghost use Rattle.script_run.specs.WholeLines.{DoesWholeLines};
 
 use crate::reading::{ReadProgress, read_on};
 use crate::writing::hand_over_all;
-use crate::{Options, RunFault};
+use crate::{Options, RefusedLine, RunFault};
 use byte_streams::{CountingReader, FailStopWriter, chunk_of};
 use rule_machine::{Event, Want};
 use rules_api::Rules;
@@ -23,15 +23,18 @@ use run_session::{LineError, Run as LineRun, read_command};
 use script_text::Command;
 use std::alloc::Global;
 use std::io::{Read, Write};
+use std::mem;
 use std::sync::Wait;
 use std::thread::Threads;
 use step_log::RecordFault;
 
-/// A run whose text is the unwritten part of the transcript, and how many workers judge a step.
+/// A run whose text is the unwritten part of the transcript, how many workers judge a step, and the line that
+/// was refused.
 #[derive(Drop)]
 pub struct Run<R: Rules> {
     pub line: LineRun<R>,
     pub workers: u32,
+    pub refused: RefusedLine,
 }
 
 impl<R: Rules> Run<R> {
@@ -43,7 +46,12 @@ impl<R: Rules> Run<R> {
         let (nodes, present) = (options.nodes(), options.present());
         let line = LineRun::new(alloc, options.rules(), nodes, present, options.limit())?;
         let workers = options.workers();
-        Ok(Run { line, workers })
+        let refused = RefusedLine::none(alloc);
+        Ok(Run {
+            line,
+            workers,
+            refused,
+        })
     }
 }
 
@@ -90,7 +98,7 @@ impl<R: Rules + Sync> Run<R> {
 
     // If memory runs out, no text is added, not even the text of turns that were taken.
     #[inline(always)]
-    pub fn carry_out<T: Threads + Wait + Sync>(
+    fn carry_out_whole<T: Threads + Wait + Sync>(
         &mut self,
         rt: &T,
         alloc: Global,
@@ -104,6 +112,25 @@ impl<R: Rules + Sync> Run<R> {
         let done = self.carry_out_line(rt, alloc, number, line);
         if let Err(LineError::Record(RecordFault::Memory)) = done {
             self.line.text.truncate(len);
+        }
+        done
+    }
+
+    // The same, and keeps a bad line.
+    #[inline(always)]
+    pub fn carry_out<T: Threads + Wait + Sync>(
+        &mut self,
+        rt: &T,
+        alloc: Global,
+        number: u64,
+        line: &[u8],
+    ) -> Result<(), LineError>
+        ensures ends { CarriesLine R.table self.old.line self.new.line number line.now result }
+        ensures limit { self.new.line.recorder.limit ≡ self.old.line.recorder.limit }
+    {
+        let done = self.carry_out_whole(rt, alloc, number, line);
+        if let Err(LineError::BadLine { .. }) = done {
+            self.refused.keep(line);
         }
         done
     }
@@ -153,12 +180,15 @@ fn is_unwritten(ended: Result<(), RunFault>) -> bool
 }
 
 /// Carries out the lines of a script in a run that has begun, and writes the run's text.
+///
+/// A line that is no command is put into `refused`.
 pub fn play<R: Rules + Sync, In: Read, Out: Write, T: Threads + Wait + Sync>(
     rt: &T,
     alloc: Global,
     run: Run<R>,
     reader: &mut CountingReader<In>,
     writer: &mut FailStopWriter<Out>,
+    refused: &mut RefusedLine,
 ) -> Result<(), RunFault>
     ensures outcome { IfSome (In.remaining reader.old.reader) (λ script.
         EndsFrom R.table run.line.recorder.limit (progress_of run.line) script
@@ -171,6 +201,7 @@ pub fn play<R: Rules + Sync, In: Read, Out: Write, T: Threads + Wait + Sync>(
 {
     let mut run = run;
     let ended = run.carry_out_all(rt, alloc, reader, writer);
+    mem::swap(refused, &mut run.refused);
     if is_unwritten(ended) {
         return ended;
     }
@@ -185,6 +216,7 @@ pub fn run_on<R: Rules + Sync, In: Read, Out: Write, T: Threads + Wait + Sync>(
     reader: &mut CountingReader<In>,
     writer: &mut FailStopWriter<Out>,
     options: &Options,
+    refused: &mut RefusedLine,
 ) -> Result<(), RunFault>
     ensures outcome { IfSome (In.remaining reader.old.reader) (λ script.
         EndsFrom R.table options.now.limit (first_progress options.now.rules options.now.nodes options.now.present) script
@@ -198,5 +230,5 @@ pub fn run_on<R: Rules + Sync, In: Read, Out: Write, T: Threads + Wait + Sync>(
     let Ok(run) = Run::<R>::new(alloc, options) else {
         return Err(RunFault::Memory);
     };
-    play(rt, alloc, run, reader, writer)
+    play(rt, alloc, run, reader, writer, refused)
 }

@@ -10,7 +10,7 @@ ghost use Rattle.script_run.specs.Outcome.{IsRunOutcome};
 ghost use Rattle.script_run.specs.WholeLines.{DoesWholeLines};
 
 use crate::runner::run_on;
-use crate::{Options, RunFault};
+use crate::{Options, RefusedLine, RunFault};
 use byte_streams::{CountingReader, FailStopWriter};
 use rule_machine::RuleSet;
 use rules_hsu_huang::HsuHuang;
@@ -38,6 +38,8 @@ use std::thread::Threads;
 /// No entry is kept. Memory is taken for the network, for 65,536 bytes of the script and the begun line, and
 /// for the unwritten text: 65,536 bytes, the text of one line, and during a checkpoint its base.
 ///
+/// After `BadLine` the bytes of the line are in `refused`, if there is memory for them.
+///
 /// A step is evaluated by one worker for each 16,384 items, at least one and at most the options' number. The
 /// number of workers does not change the transcript.
 pub fn run<In: Read, Out: Write, T: Threads + Wait + Sync>(
@@ -46,6 +48,7 @@ pub fn run<In: Read, Out: Write, T: Threads + Wait + Sync>(
     reader: &mut CountingReader<In>,
     writer: &mut FailStopWriter<Out>,
     options: &Options,
+    refused: &mut RefusedLine,
 ) -> Result<(), RunFault>
     ensures outcome { IfSome (In.remaining reader.old.reader) (λ script.
         IsRunOutcome options.now.rules options.now.nodes options.now.present options.now.limit script
@@ -57,7 +60,7 @@ pub fn run<In: Read, Out: Write, T: Threads + Wait + Sync>(
     ensures unwritten { IsErrOf result Unwritten → writer.new.failed ≡ true }
 {
     match options.rules() {
-        RuleSet::Hh => run_on::<HsuHuang, In, Out, T>(rt, alloc, reader, writer, options),
-        RuleSet::Manne => run_on::<Manne, In, Out, T>(rt, alloc, reader, writer, options),
+        RuleSet::Hh => run_on::<HsuHuang, In, Out, T>(rt, alloc, reader, writer, options, refused),
+        RuleSet::Manne => run_on::<Manne, In, Out, T>(rt, alloc, reader, writer, options, refused),
     }
 }

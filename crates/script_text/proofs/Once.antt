@@ -1,5 +1,5 @@
 -- A line is at most one command, and commands lead to one end.
-use Rattle.script_text.proofs.Prelude.{◌≡◌, ℕ, zero, suc, ◌+◌, ◌*◌, Bool, true, false, ◌||◌, nat_eq, List, [], ◌∷◌, Option, None, Some, get_or, codes, refl, sym, ap, subst, ◌∙◌, append_assoc, arith, IsInRange, true≢false, append_cancel_left, digits_decimal, decimal_injective, Stream, Event, RuleSet, Link, Moment, RuleTable, number_text, event_text, own, run_once, spells_once, Command, Tell, Drive, Scramble, Checkpoint, Turns, IsTurns, IsCommand, turns_text, command_text, Says, Draws, seeded_stream, drawn_step, drawn_fault, Progress, AppendsEntry, TurnDoes, TurnsDo, CommandDoes, LineDoes, LinesDo}
+use Rattle.script_text.proofs.Prelude.{◌≡◌, ℕ, zero, suc, ◌+◌, ◌*◌, Bool, true, false, ◌||◌, nat_eq, List, [], ◌∷◌, Option, None, Some, get_or, codes, refl, sym, ap, subst, ◌∙◌, append_assoc, arith, IsInRange, true≢false, append_cancel_left, digits_decimal, decimal_injective, Stream, Event, RuleSet, Link, Moment, RuleTable, number_text, event_text, own, run_once, spells_once, Command, Tell, Drive, Scramble, Checkpoint, Turns, IsTurns, IsCommand, turns_text, command_text, Says, Draws, seeded_stream, drawn_step, drawn_fault, Progress, AppendsEntry, TurnDoes, TurnsDo, CommandDoes, LineDoes, LinesDo, RoundCount}
 
 turns_of : ℕ → ℕ → Turns
 turns_of s c = record { seed = s; count = c }
@@ -49,18 +49,19 @@ pub says_once : (line : List ℕ) (c d : Command) → Says line c → Says line 
 says_once line c d p q = command_once c d p.0 q.0 (sym p.1 ∙ q.1)
 
 -- the parts of a progress
-progress_of : RuleSet → Moment → ℕ → List ℕ → Progress
-progress_of r m n x = record { rules = r; moment = m; count = n; text = x }
+progress_of : RuleSet → Moment → ℕ → List ℕ → Option RoundCount → Progress
+progress_of r m n x c = record { rules = r; moment = m; count = n; text = x; counting = c }
 
-same_progress : (p q : Progress) → p.rules ≡ q.rules → p.moment ≡ q.moment → p.count ≡ q.count → p.text ≡ q.text → p ≡ q
+same_progress : (p q : Progress) → p.rules ≡ q.rules → p.moment ≡ q.moment → p.count ≡ q.count → p.text ≡ q.text → p.counting ≡ q.counting → p ≡ q
 unfolding progress_of
-same_progress p q r m n x =
-    ap (λ (z : RuleSet). progress_of z p.moment p.count p.text) r ∙ ap (λ (z : Moment). progress_of q.rules z p.count p.text) m
-    ∙ ap (λ (z : ℕ). progress_of q.rules q.moment z p.text) n ∙ ap (λ (z : List ℕ). progress_of q.rules q.moment q.count z) x
+same_progress p q r m n x c =
+    ap (λ (z : RuleSet). progress_of z p.moment p.count p.text p.counting) r ∙ ap (λ (z : Moment). progress_of q.rules z p.count p.text p.counting) m
+    ∙ ap (λ (z : ℕ). progress_of q.rules q.moment z p.text p.counting) n ∙ ap (λ (z : List ℕ). progress_of q.rules q.moment q.count z p.counting) x
+    ∙ ap (λ (z : Option RoundCount). progress_of q.rules q.moment q.count q.text z) c
 
 -- an event leads to one progress
 entry_once : (t : RuleTable) (event : Event) (before after other : Progress) → AppendsEntry t event before after → AppendsEntry t event before other → after ≡ other
-entry_once t event before after other p q = same_progress after other (p.rules ∙ sym q.rules) (p.moment ∙ sym q.moment) (p.count ∙ sym q.count) (p.text ∙ sym q.text)
+entry_once t event before after other p q = same_progress after other (p.rules ∙ sym q.rules) (p.moment ∙ sym q.moment) (p.count ∙ sym q.count) (p.text ∙ sym q.text) (p.counting ∙ sym q.counting)
 
 -- a turn leads to one progress, if the later ones do
 turn_once : (t : RuleTable) (drawn : Option Event) (P Q : Progress → Type 0) (before after other : Progress)

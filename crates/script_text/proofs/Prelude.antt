@@ -28,6 +28,7 @@ pub use Rattle.rand_core.specs.Stream.{Stream}
 pub use Rattle.rule_machine.specs.HsuHuang.{hsu_huang}
 pub use Rattle.rule_machine.specs.Least.{state_after}
 pub use Rattle.rule_machine.specs.Manne.{manne}
+pub use Rattle.round_laws.specs.RoundCounts.{RoundCount}
 pub use Rattle.rule_machine.specs.RuleTable.{RuleTable, enabled_names}
 pub use Rattle.rule_machine.specs.Run.{Moment}
 pub use Rattle.rule_machine.specs.State.{State, IsState}

@@ -4,9 +4,10 @@ use Rattle.rand_core.specs.Stream.{Stream}
 use Rattle.rule_machine.specs.declared.event.Event.{Event}
 use Rattle.rule_machine.specs.declared.rules.RuleSet.{RuleSet}
 use Rattle.rule_machine.specs.RuleTable.{RuleTable}
-use Rattle.rule_machine.specs.Least.{reply_of}
+use Rattle.rule_machine.specs.Least.{reply_of, state_after}
 use Rattle.rule_machine.specs.Run.{Moment, moment_after}
 use Rattle.rule_machine.specs.Base.{base_of}
+use Rattle.round_laws.specs.RoundCounts.{RoundCount, next_counting}
 use Rattle.line_text.specs.EntryText.{entry_line}
 use Rattle.line_text.specs.BaseText.{base_text}
 use Rattle.script_text.specs.declared.command.Command.{Command}
@@ -24,20 +25,22 @@ abbrev pub lines_of : List ℕ → List (List ℕ)
 lines_of [] = []
 lines_of (b ∷ bytes) = if b == 10 then [] ∷ lines_of bytes else onto_first b (lines_of bytes)
 
--- how far a run has come: its rule set, the machine's state, the moves spent, the number of entries, and the
--- text of the entries
+-- how far a run has come: its rule set, the machine's state, the moves spent, the number of entries, the text
+-- of the entries, and the count of rounds, if they are counted
 pub record Progress : Type 0 where
   pub rules : RuleSet
   pub moment : Moment
   pub count : ℕ
   pub text : List ℕ
+  pub counting : Option RoundCount
 
--- the machine carries out the event, and its entry is appended to the text
+-- the machine carries out the event, and its entry is appended to the text and counted
 pub record AppendsEntry (t : RuleTable) (event : Event) (before after : Progress) : Type 0 where
   pub rules : after.rules ≡ before.rules
   pub moment : after.moment ≡ moment_after t before.moment event
   pub count : after.count ≡ before.count + 1
   pub text : after.text ≡ before.text ++ entry_line (before.count + 1) event (reply_of t before.moment.state before.moment.spent event)
+  pub counting : after.counting ≡ next_counting t (reply_of t before.moment.state before.moment.spent event) (state_after t before.moment.state event) before.counting
 
 -- an event makes an entry, if there are fewer entries than the limit
 abbrev pub EventDoes : RuleTable → ℕ → Event → Progress → Progress → Type 0

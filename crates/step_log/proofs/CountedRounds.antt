@@ -1,5 +1,5 @@
 -- A counter of rounds after one more entry.
-use Rattle.step_log.proofs.Prelude.{◌≡◌, ◌≢◌, ℕ, ◌+◌, ◌<◌, ◌≤◌, Bool, false, cond, List, [], ◌∷◌, ◌++◌, length, All-push, Option, None, Some, IsTrue, refl, sym, ap, subst, arith, Moved, Event, Reply, Accepted, Refused, Moves, Shown, EnabledAre, Pairs, Counts, State, IsState, RuleTable, Answers, spent_after, Entry, Moment, Run, IsTable, Does, AnswersBy, refusal_of, Refusal, Step, false≢true, run_add, answers_keep, followed, answer_followed, enabled_names, Network, members, HasCounted, IsLocal, CanCount, is_step, log_after, start_after, RoundCounter, CountsRun}
+use Rattle.step_log.proofs.Prelude.{◌≡◌, ◌∙◌, ◌≢◌, ℕ, ◌+◌, ◌<◌, ◌≤◌, Bool, false, cond, List, [], ◌∷◌, ◌++◌, length, All-push, Option, None, Some, IsTrue, refl, sym, ap, subst, arith, Moved, Event, Reply, Accepted, Refused, Moves, Shown, EnabledAre, Pairs, Counts, State, IsState, RuleTable, Answers, spent_after, Entry, Moment, Run, IsTable, Does, AnswersBy, refusal_of, Refusal, Step, false≢true, run_add, answers_keep, followed, answer_followed, enabled_names, Network, members, IsUndisturbed, RoundCount, count_of_log, counted_whole, rounds_in, rounds_of, next_count, next_counting, AreEnabledIn, HasCounted, IsLocal, CanCount, count_in, is_step, log_after, start_after, RoundCounter, CountsRun, counting_in}
 
 -- what the counter says of an entry that led to this state
 abbrev pub CountsTo : RuleTable → State → Event → Reply → State → RoundCounter → RoundCounter → Type 0
@@ -91,3 +91,31 @@ counts_after t m next event (Pairs x) old new good answers spent fits ready few 
 counts_after t m next event (Counts x) old new good answers spent fits ready few to it =
     let before = it.few in
     more t m next event (Counts x) old new answers spent (not_accepted (Counts x) (λ e. omega (arith, e))) (omega (arith, few, before, spent)) it (to it.start.state it.log (λ step. absurd (false≢true step)) it.counted)
+
+-- ---- the count, as one value
+
+-- a counter that is ready can count the entry: each round has a move
+can_count : (t : RuleTable) (m next : Moment) (event : Event) (reply : Reply) (old : RoundCounter) → Answers t m.state m.spent event reply next.state → next.spent ≡ spent_after m.spent reply → next.spent < 4294967296 → (IsTrue (is_step reply) → old.is_new ≡ false) → old.rounds ≤ m.spent → CanCount reply old
+can_count t m next event (Moves moves) old answers spent fits ready before step =
+    let some = some_moves t m.state m.spent event moves next.state answers in (ready step, omega (arith, some, before, spent, fits))
+can_count t m next event Accepted old answers spent fits ready before step = absurd (false≢true step)
+can_count t m next event (Refused x) old answers spent fits ready before step = absurd (false≢true step)
+can_count t m next event (Shown x) old answers spent fits ready before step = absurd (false≢true step)
+can_count t m next event (EnabledAre x) old answers spent fits ready before step = absurd (false≢true step)
+can_count t m next event (Pairs x) old answers spent fits ready before step = absurd (false≢true step)
+can_count t m next event (Counts x) old answers spent fits ready before step = absurd (false≢true step)
+
+-- the state after an answer is the one that its reply tells
+pub count_after : (t : RuleTable) → IsTable t → IsLocal t → (net : Network) (e : List Bool) (m next : Moment) (event : Event) (reply : Reply) (old new : RoundCounter) → IsState m.state → Answers t m.state m.spent event reply next.state → next.spent ≡ spent_after m.spent reply → next.spent < 4294967296 → (IsTrue (is_step reply) → old.is_new ≡ false)
+    → net ≡ next.state.network → members e ≡ enabled_names t next.state
+    → ((t : RuleTable) (s : State) (event : Event) → IsLocal t → IsState s → IsState (followed s event reply) → net ≡ (followed s event reply).network → members e ≡ enabled_names t (followed s event reply) → CanCount reply old → AreEnabledIn t s old → count_in t (followed s event reply) new ≡ next_count t reply (followed s event reply) (count_in t s old))
+    → CountsRun t m old → count_in t next.state new ≡ next_count t reply next.state (count_in t m.state old)
+count_after t table local net e m next event reply old new good answers spent fits ready same is clause it =
+    subst (λ (u : State). IsState u → net ≡ u.network → members e ≡ enabled_names t u → count_in t u new ≡ next_count t reply u (count_in t m.state old))
+    (answer_followed t m.state m.spent event reply next.state answers)
+    (λ good' same is. clause t m.state event local good good' same is (can_count t m next event reply old answers spent fits ready it.few) it.counted.enabled)
+    (answers_keep t table m.state good m.spent event reply next.state answers) same is
+
+-- a count of a log without a disturbance tells its rounds
+pub exact_rounds : (t : RuleTable) (start : State) (log : List Entry) (counting : Option RoundCount) (rounds : Option ℕ) → rounds ≡ rounds_of counting → IsUndisturbed log → counting ≡ Some (count_of_log t start log) → rounds ≡ Some (rounds_in t start log)
+exact_rounds t start log counting rounds told calm is = told ∙ ap rounds_of is ∙ ap (λ (n : ℕ). Some n) (counted_whole t start log calm)

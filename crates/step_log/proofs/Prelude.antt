@@ -13,7 +13,7 @@ pub use Rattle.std.proofs.lemmas.Result.{IfOk-weaker}
 pub use Rattle.std.specs.List.{list_all, cons_option, range_with_len}
 pub use Rattle.std.specs.List.Sorted.{IsStrictlyIncreasing}
 pub use Rattle.std.specs.Option.{option_map}
-pub use Rattle.std.specs.Prelude.{IfOk}
+pub use Rattle.std.specs.Prelude.{IfOk, IfSome}
 pub use Rattle.charge_laws.proofs.Epochs.{epochs_are_bounded}
 pub use Rattle.charge_laws.proofs.Laws.{moves_are_paid}
 pub use Rattle.charge_laws.proofs.Runs.{Effect, rests, steps, disturbs, effect, step_network}
@@ -32,9 +32,12 @@ pub use Rattle.machine_laws.proofs.Runs.{runs_end_in_states, run_add, answers_ke
 pub use Rattle.machine_laws.proofs.Sizes.{runs_keep_size}
 pub use Rattle.machine_laws.proofs.UnusedFlags.{IsFlagless}
 pub use Rattle.machine_laws.specs.StatesAfterReplies.{followed}
-pub use Rattle.round_counter.specs.Counting.{HasCounted, IsLocal, CanCount, is_step, log_after, start_after}
+pub use Rattle.round_counter.specs.Counting.{AreEnabledIn, HasCounted, IsLocal, CanCount, count_in, is_step, log_after, start_after}
 pub use Rattle.round_counter.specs.declared.counter.RoundCounter.{RoundCounter}
 pub use Rattle.round_laws.proofs.Counting.{answer_followed}
+pub use Rattle.round_laws.proofs.RoundCounts.{counted_whole}
+pub use Rattle.round_laws.specs.Rounds.{rounds_in}
+pub use Rattle.round_laws.specs.RoundCounts.{RoundCount, count_of_log, first_count, next_count, next_counting, rounds_of}
 pub use Rattle.charge_laws.specs.ChargeWords.{IsUndisturbed}
 pub use Rattle.rule_engine.proofs.AscendingMoves.{rises_tail}
 pub use Rattle.rule_machine.specs.Answer.{Answers, spent_after, Does, AnswersBy}
@@ -63,8 +66,8 @@ pub use Rattle.step_log.specs.Epochs.{AreEpochs, IsEpochWithinBound, IsEpochPath
 pub use Rattle.step_log.specs.Headline.{Upholds, LeadsTo}
 pub use Rattle.step_log.specs.JournalViews.{IsJournal, JournalView, kept_of, undropped_log, IsNextReceipt}
 pub use Rattle.step_log.specs.Log.{empty_log_with, max_entries, Log, IsLog}
-pub use Rattle.step_log.specs.Recording.{Recording, IsRecording}
-pub use Rattle.step_log.specs.Rounds.{CountsRun, CountsRounds, HasRounds, IsReady, IsCountedRecording, recorded_moment}
+pub use Rattle.step_log.specs.Recording.{Recording, IsRecording, entered}
+pub use Rattle.step_log.specs.Rounds.{CountsRun, CountsRounds, HasRounds, IsReady, IsCountedRecording, counting_in, recorded_moment}
 pub use Rattle.step_log.specs.RetainedLogs.{RetainedLog, Begins, moment_in, IsRetainedRun, IsBaseOfGraph, checkpointed, kept_with, last_number, next_entry, whole, log_in}
 pub use Rattle.step_log.specs.declared.epoch.Epoch.{Epoch}
 pub use Rattle.step_log.specs.declared.receipt.Receipt.{Receipt}

@@ -1,26 +1,26 @@
 -- The rounds that a recorder counts.
 use Rattle.std.specs.Prelude.{◌≡◌, ℕ, ◌+◌, ◌≤◌, List, ◌++◌, Option, None, Some, IsTrue, false}
 use Rattle.rule_machine.specs.declared.reply.Reply.{Reply}
-use Rattle.rule_machine.specs.State.{IsState}
+use Rattle.rule_machine.specs.State.{State, IsState}
 use Rattle.rule_machine.specs.RuleTable.{RuleTable}
 use Rattle.rule_machine.specs.Run.{Entry, Moment, Run}
 use Rattle.charge_laws.specs.ChargeWords.{IsUndisturbed}
 use Rattle.round_laws.specs.Rounds.{rounds_in, rounds_from}
-use Rattle.round_counter.specs.Counting.{HasCounted, is_step}
+use Rattle.round_laws.specs.RoundCounts.{RoundCount}
+use Rattle.round_counter.specs.Counting.{HasCounted, count_in, is_step}
 use Rattle.round_counter.specs.declared.counter.RoundCounter.{RoundCounter}
 use Rattle.step_log.specs.Recording.{Recording, IsRecording}
 
--- A run without a disturbance leads to this moment, and completes this many rounds. Whatever entries come
+-- A run without a disturbance leads to this moment, and the count is that of its rounds. Whatever entries come
 -- next, the rounds of all together are these and those that the pending nodes complete.
-pub record HasRounds (t : RuleTable) (m : Moment) (rounds : ℕ) : Type 0 where
+pub record HasRounds (t : RuleTable) (m : Moment) (count : RoundCount) : Type 0 where
   pub start : Moment
   pub is_state : IsState start.state
   pub log : List Entry
   pub run : Run t start log m
   pub calm : IsUndisturbed log
-  pub rounds_are : rounds ≡ rounds_in t start.state log
-  pub pending : List ℕ
-  pub later : (rest : List Entry) → rounds_in t start.state (log ++ rest) ≡ rounds + rounds_from t m.state pending rest
+  pub rounds_are : count.rounds ≡ rounds_in t start.state log
+  pub later : (rest : List Entry) → rounds_in t start.state (log ++ rest) ≡ count.rounds + rounds_from t m.state count.pending rest
 
 -- A run without a disturbance leads to this moment, and the counter has counted its rounds. Each has a move.
 pub record CountsRun (t : RuleTable) (m : Moment) (c : RoundCounter) : Type 0 where
@@ -36,6 +36,11 @@ pub record CountsRun (t : RuleTable) (m : Moment) (c : RoundCounter) : Type 0 wh
 abbrev pub CountsRounds : RuleTable → Moment → Option RoundCounter → Type 0
 CountsRounds t m None = Unit {0}
 CountsRounds t m (Some c) = CountsRun t m c
+
+-- the count of a counter in this state, if there is one
+abbrev pub counting_in : RuleTable → State → Option RoundCounter → Option RoundCount
+counting_in t s None = None
+counting_in t s (Some c) = Some (count_in t s c)
 
 -- before a step a counter has the pending nodes in its set
 abbrev pub IsReady : Reply → Option RoundCounter → Type 0

@@ -36,15 +36,15 @@ impl<R: Rules> Model for Recorder<R> {
     ghost use Rattle.std.specs.Coded.{codes};
     ghost use Rattle.rule_machine.specs.State.{state_code};
     ghost use Rattle.step_log.specs.Recording.{Recording};
-    ghost use Rattle.step_log.specs.Rounds.{IsCountedRecording};
+    ghost use Rattle.step_log.specs.Rounds.{IsCountedRecording, counting_in};
 
     ghost Value = { Recording };
 
     ghost coded = { Prim.hlevel (codes, state_code) };
 
-    ghost view = { λ r. record { state = r.net.state; spent = r.net.spent; len = r.len; limit = r.limit; present = r.present } };
+    ghost view = { λ r. record { state = r.net.state; spent = r.net.spent; len = r.len; limit = r.limit; present = r.present; counting = counting_in R.table r.net.state r.rounds } };
 
-    ghost invariant = { λ r. IsCountedRecording R.table (record { state = r.net.state; spent = r.net.spent; len = r.len; limit = r.limit; present = r.present }) r.rounds };
+    ghost invariant = { λ r. IsCountedRecording R.table (record { state = r.net.state; spent = r.net.spent; len = r.len; limit = r.limit; present = r.present; counting = counting_in R.table r.net.state r.rounds }) r.rounds };
 }
 
 impl<R: Rules> Recorder<R> {

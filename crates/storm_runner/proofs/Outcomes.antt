@@ -16,15 +16,15 @@ pub not_of_call : (P : Type 0) (fault : CallFault) (found : StormFault) → foun
 not_of_call P fault found is same = grind arith
 
 -- no log was left
-not_left : (t : RuleTable) (weight : ℕ) (at : StormStart) (texts : List (Option (List ℕ))) (old new : Option (List ℕ)) (fault : StormFault) → FailsToPlay fault → Keeps old new → EndsAllScripts t weight at texts old new (Err fault)
-not_left t weight at texts old new storm.Memory fails nothing = inr nothing
-not_left t weight at texts old new (storm.Unsettled why) fails nothing = (fails, nothing)
-not_left t weight at texts old new fault fails nothing = absurd fails
+not_left : (t : RuleTable) (weight : ℕ) (at : StormStart) (texts : List (Option (List ℕ))) (scripts : List (List ScriptLine)) (old new : Option (List ℕ)) (fault : StormFault) → AllHold texts scripts → FailsToPlay t at scripts fault → Keeps old new → EndsAllScripts t weight at texts old new (Err fault)
+not_left t weight at texts scripts old new storm.Memory held fails nothing = inr nothing
+not_left t weight at texts scripts old new (storm.Unsettled why) held fails nothing = (fails.0, (scripts, held, fails.1), nothing)
+not_left t weight at texts scripts old new fault held fails nothing = absurd fails
 
-pub told_not_left : (t : RuleTable) (weight : ℕ) (at : StormStart) (texts : List (Option (List ℕ))) (old new : Option (List ℕ)) (fault : StormFault) (result : Result Unit StormFault) → IsErr result → IsErrAnd result (λ found. found ≡ fault) → FailsToPlay fault → Keeps old new
+pub told_not_left : (t : RuleTable) (weight : ℕ) (at : StormStart) (texts : List (Option (List ℕ))) (scripts : List (List ScriptLine)) (old new : Option (List ℕ)) (fault : StormFault) (result : Result Unit StormFault) → IsErr result → IsErrAnd result (λ found. found ≡ fault) → AllHold texts scripts → FailsToPlay t at scripts fault → Keeps old new
     → EndsAllScripts t weight at texts old new result
-told_not_left t weight at texts old new fault result is gives fails nothing =
-    subst (λ (r : Result Unit StormFault). EndsAllScripts t weight at texts old new r) (told result fault is gives) (not_left t weight at texts old new fault fails nothing)
+told_not_left t weight at texts scripts old new fault result is gives held fails nothing =
+    subst (λ (r : Result Unit StormFault). EndsAllScripts t weight at texts old new r) (told result fault is gives) (not_left t weight at texts scripts old new fault held fails nothing)
 
 module _ {t : RuleTable} {weight : ℕ} {at : StormStart} {scripts : List (List ScriptLine)} {kept : RetainedLog} where
   -- the scripts that were read are those that were played

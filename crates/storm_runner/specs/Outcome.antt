@@ -16,12 +16,13 @@ use Rattle.byte_streams.specs.PartialOutput.{AppendsBeginning}
 use Rattle.step_log.specs.RetainedLogs.{RetainedLog, IsRetainedRun}
 use Rattle.locked_net.specs.declared.call_fault.CallFault.{CallFault}
 use Rattle.locked_net.specs.declared.call_fault.CallFault.TheVariants as call
+use Rattle.locked_net.specs.declared.settle_fault.SettleFault.{SettleFault}
 use Rattle.locked_net.specs.declared.settle_fault.SettleFault.TheVariants as settle
 use Rattle.locked_net.specs.Receipts.{base_number}
 use Rattle.locked_net.specs.Settings.{Setting}
 use Rattle.locked_net.specs.Headline.{Headline}
 use Rattle.script_text.specs.declared.script.ScriptLine.{ScriptLine}
-use Rattle.storm_runner.specs.Storm.{IsStormResult}
+use Rattle.storm_runner.specs.Storm.{IsStormResult, IsUnsettledStorm}
 use Rattle.storm_runner.specs.RetainedText.{AreWritable, kept_text}
 use Rattle.script_run.specs.Restarts.{RestartView, options_at}
 use Rattle.script_run.specs.RunOptions.{OptionsView}
@@ -74,6 +75,11 @@ abbrev pub LeavesText : RuleTable → ℕ → StormStart → List (Option (List 
 LeavesText t weight at texts fault P =
     (scripts : List (List ScriptLine)) × (kept : RetainedLog) × AllHold texts scripts × Leaves t weight at scripts fault kept × WritesKept P at.asked kept
 
+-- the scripts are those of the texts, and what they left does not settle, for this reason
+abbrev pub LeavesUnsettled : RuleTable → StormStart → List (Option (List ℕ)) → SettleFault → Type 0
+LeavesUnsettled t at texts why =
+    (scripts : List (List ScriptLine)) × AllHold texts scripts × IsUnsettledStorm (start_setting t at) scripts at.asked.roamers at.asked.turns why
+
 -- If the result is `Ok`, each script was played to its end, no worker met a fault, and the whole text was
 -- written. If the first fault is returned, the whole text was written too. If the writer failed, a beginning
 -- was written. If the receipts do not account for the log, or the scripts could not be read, nothing was
@@ -88,7 +94,7 @@ EndsAllScripts t weight at texts old new (Err Memory) =
     LeavesText t weight at texts (Some call.Memory) (Appends old new) ⊎ Keeps old new
 EndsAllScripts t weight at texts old new (Err Write) =
     (fault : Option CallFault) × LeavesText t weight at texts fault (AppendsBeginning old new)
-EndsAllScripts t weight at texts old new (Err (Unsettled why)) = (why ≢ settle.Memory) × Keeps old new
+EndsAllScripts t weight at texts old new (Err (Unsettled why)) = (why ≢ settle.Memory) × LeavesUnsettled t at texts why × Keeps old new
 EndsAllScripts t weight at texts old new (Err TooManyScripts) = (64 < length texts) × Keeps old new
 EndsAllScripts t weight at texts old new (Err (BadLine script line)) = FirstBadScript 1 texts script line × Keeps old new
 EndsAllScripts t weight at texts old new (Err Read) = (texts ≢ []) × Keeps old new

@@ -5,15 +5,19 @@ use Rattle.byte_streams.specs.PartialOutput.{AppendsBeginning}
 use Rattle.script_run.specs.RunOptions.{OptionsView}
 use Rattle.step_log.specs.RetainedLogs.{RetainedLog}
 use Rattle.locked_net.specs.declared.settle_fault.SettleFault.TheVariants as settle
-use Rattle.storm_runner.specs.Outcome.{WritesKept}
+use Rattle.rule_machine.specs.RuleTable.{RuleTable}
+use Rattle.script_text.specs.declared.script.ScriptLine.{ScriptLine}
+use Rattle.storm_runner.specs.Outcome.{StormStart, WritesKept, start_setting}
+use Rattle.storm_runner.specs.Storm.{IsUnsettledStorm}
 use Rattle.storm_runner.specs.declared.fault.StormFault.{StormFault}
 use Rattle.storm_runner.specs.declared.fault.StormFault.TheVariants.{Write, Memory, Unsettled}
 
--- scripts were played, but left no log
-abbrev pub FailsToPlay : StormFault → Type 0
-FailsToPlay Memory = Unit {0}
-FailsToPlay (Unsettled why) = why ≢ settle.Memory
-FailsToPlay _ = ⊥
+-- scripts were played from this start, but left no log
+abbrev pub FailsToPlay : RuleTable → StormStart → List (List ScriptLine) → StormFault → Type 0
+FailsToPlay t at scripts Memory = Unit {0}
+FailsToPlay t at scripts (Unsettled why) =
+    (why ≢ settle.Memory) × IsUnsettledStorm (start_setting t at) scripts at.asked.roamers at.asked.turns why
+FailsToPlay t at scripts _ = ⊥
 
 -- the text of a kept log was not written to its end
 abbrev pub FailsToWrite : Option (List ℕ) → Option (List ℕ) → OptionsView → RetainedLog → StormFault → Type 0

@@ -23,9 +23,10 @@ use Rattle.script_text.specs.declared.command.Command.TheVariants.{Tell, Drive, 
 use Rattle.locked_net.specs.RetainedParts.{IsPartOfLog}
 use Rattle.locked_net.specs.Receipts.{ClerkView, front_from, front_of, base_from, base_number}
 use Rattle.locked_net.specs.Settings.{Setting}
-use Rattle.locked_net.specs.Settlements.{Settlement}
+use Rattle.locked_net.specs.Settlements.{Settlement, Unsettles}
 use Rattle.locked_net.specs.RoamResults.{IsLoneStep, TakesTurns}
 use Rattle.locked_net.specs.declared.call_fault.CallFault.{CallFault}
+use Rattle.locked_net.specs.declared.settle_fault.SettleFault.{SettleFault}
 use Rattle.script_text.specs.declared.script.ScriptLine.{ScriptLine}
 use Rattle.storm_runner.specs.Turns.{Scene, DrawnFrom, IsIdleBehind, IsQuiet, IsEmpty}
 
@@ -160,5 +161,15 @@ pub record AllTold (scene : Scene) (scripts : List (List ScriptLine)) (roamers t
 pub record IsStormResult (setting : Setting) (kept : RetainedLog) (scripts : List (List ScriptLine)) (roamers turns : ℕ) (fault : Option CallFault) : Type 0 where
   pub clerks : List ClerkView
   pub settled : Settlement (base_number setting.base) kept clerks
+  pub part : IsPartOfLog setting kept
+  pub told : AllTold (record { setting = setting; log = part.log.entries }) scripts roamers turns clerks fault
+
+-- Why these scripts were not settled with these workers: what the clerks and the log above the base then were.
+-- The scripts and workers were played as in a storm that settles.
+pub record IsUnsettledStorm (setting : Setting) (scripts : List (List ScriptLine)) (roamers turns : ℕ) (why : SettleFault) : Type 0 where
+  pub kept : RetainedLog
+  pub clerks : List ClerkView
+  pub fault : Option CallFault
+  pub differs : Unsettles (base_number setting.base) kept clerks why
   pub part : IsPartOfLog setting kept
   pub told : AllTold (record { setting = setting; log = part.log.entries }) scripts roamers turns clerks fault

@@ -1,13 +1,14 @@
 //! Scripts and workers on one network, and the log that they leave.
 
-ghost use Rattle.std.specs.Prelude.{◌≡◌, ◌≤◌, length, IfOk, vec_len};
+ghost use Rattle.std.specs.Prelude.{◌≡◌, ◌≢◌, ◌≤◌, length, IfErr, IfOk, vec_len};
 ghost use Rattle.std.specs.List.{All};
 ghost use Rattle.step_log.specs.Headline.{Upholds};
 ghost use Rattle.step_log.specs.JournalViews.{kept_of};
 ghost use Rattle.step_log.specs.RetainedLogs.{IsRetainedRun};
 ghost use Rattle.locked_net.specs.Nets.{name_count_of, first_nodes_of, log_limit_of, setting_of};
 ghost use Rattle.locked_net.specs.Receipts.{fresh};
-ghost use Rattle.storm_runner.specs.Storm.{IsStormResult};
+ghost use Rattle.locked_net.specs.declared.settle_fault.SettleFault.TheVariants.{Memory};
+ghost use Rattle.storm_runner.specs.Storm.{IsStormResult, IsUnsettledStorm};
 
 use crate::WorkerConfig;
 use crate::beside::play_beside;
@@ -65,6 +66,7 @@ pub fn play_scripts<R: Rules + Send + Sync, G: Gate + Sync, T: Threads + Wait + 
     ensures storm { IfOk result (λ left. IsStormResult (setting_of R.table net) (kept_of left.0) scripts.now crew.roamers crew.turns left.1) }
     ensures run { IfOk result (λ left. IsRetainedRun R.table R.NODE_WEIGHT (kept_of left.0)) }
     ensures upheld { IfOk result (λ left. Upholds R.table R.NODE_WEIGHT (kept_of left.0)) }
+    ensures fault { IfErr result (λ why. (why ≢ Memory) → IsUnsettledStorm (setting_of R.table net) scripts.now crew.roamers crew.turns why) }
     ensures size { IfOk result (λ left. (left.0.state.network.size ≡ name_count_of net) × (left.0.present ≡ first_nodes_of net) × (left.0.limit ≡ log_limit_of net)) }
 {
     let count = scripts.len() + crew.roamers as usize;

@@ -38,7 +38,7 @@ fn play<R: Rules + Send + Sync, G: Gate + Sync, T: Threads + Wait + Sync>(
     requires few { length scripts.now ≤ 64 }
     requires start { IfSome restart (GoesOnAs R.table R.NODE_WEIGHT (asked_of options.now)) }
     ensures log { IfOk result (λ left. Leaves R.table R.NODE_WEIGHT (start_of (asked_of options.now) restart) scripts.now left.1 (kept_of left.0)) }
-    ensures fault { IfErr result FailsToPlay }
+    ensures fault { IfErr result (FailsToPlay R.table (start_of (asked_of options.now) restart) scripts.now) }
 {
     let net = net_for(rt, alloc, options, restart)?;
     let crew = WorkerConfig {

@@ -75,6 +75,12 @@ export class Lab {
     const { engine, rules, names, present, start } = this;
     this.session =
       start ? resumed(engine, new TextEncoder().encode(start.base)) : new Session(engine, rules, names, present);
+    try {
+      this.session.countRounds();
+    } catch (wrong) {
+      this.free();
+      throw wrong;
+    }
     this.seen = new Seen(rules, names, present);
     if (start) {
       this.seen.begin(start.base);

@@ -62,7 +62,13 @@ export class Pane {
     byId("panes").append(root);
     /** @param {string} name */
     const part = (name) => /** @type {HTMLElement} */ (root.querySelector(`.${name}`));
-    this.parts = { state: part("state"), numbers: part("numbers"), spent: part("spent"), left: part("left") };
+    this.parts = {
+      state: part("state"),
+      numbers: part("numbers"),
+      rounds: part("rounds"),
+      spent: part("spent"),
+      left: part("left")
+    };
     part("rules").textContent = RULE_SET_NAMES[lab.rules];
     root.classList.add(lab.rules);
     this.svg = /** @type {SVGSVGElement} */ (/** @type {unknown} */ (part("graph")));
@@ -133,17 +139,19 @@ export class Pane {
   }
 
   meter() {
-    const { movesLeft, epochBound, spent, enabledCount } = this.lab.seen;
+    const { movesLeft, epochBound, spent, enabledCount, rounds, roundsLeft, mostRounds } = this.lab.seen;
     const shares = sharesOf(spent, movesLeft, epochBound);
     this.parts.spent.style.width = `${100 * shares.spent}%`;
     this.parts.left.style.width = `${100 * shares.left}%`;
     const left = enabledCount === 0 ? "silent" : `at most ${grouped(movesLeft)} to come`;
     this.parts.numbers.textContent = `spent ${grouped(spent)}, ${left}; bound ${grouped(epochBound)}`;
+    const later = enabledCount === 0 ? "silent" : `at most ${grouped(roundsLeft)} to come`;
+    this.parts.rounds.textContent = `${counted(rounds, "round")}, ${later}; bound ${grouped(mostRounds)}`;
   }
 
   note() {
-    const { spent, movesLeft, epochBound } = this.lab.seen;
-    this.trace.note(spent, movesLeft, epochBound);
+    const { spent, movesLeft, epochBound, rounds } = this.lab.seen;
+    this.trace.note(spent, movesLeft, epochBound, rounds);
   }
 
   /** @param {string[]} lines */

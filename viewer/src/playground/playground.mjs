@@ -255,7 +255,9 @@ export class Playground {
       this.draw();
       return;
     }
-    this.story.breaks(line, new Map(labs.map((lab) => [lab.rules, lab.seen.movesLeft])));
+    const most = new Map();
+    labs.forEach(({ rules, seen }) => most.set(rules, { moves: seen.movesLeft, rounds: seen.roundsLeft }));
+    this.story.breaks(line, most);
     this.mark(lastEntry(texts[0]));
     this.placeNewcomers();
     this.show();
@@ -296,8 +298,8 @@ export class Playground {
 
   tell() {
     if (this.labs.length > 0) {
-      const panels =
-        this.labs.map(({ rules, seen }) => ({ rules, moves: seen.spent, isSilent: seen.enabledCount === 0 }));
+      const panels = this.labs.map(
+        ({ rules, seen }) => ({ rules, moves: seen.spent, rounds: seen.rounds, isSilent: seen.enabledCount === 0 }));
       this.story.goesOn(panels, this.lab.seen.pairCount);
     }
   }

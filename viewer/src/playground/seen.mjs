@@ -1,5 +1,5 @@
-// The state of a network, updated by replies or, after many, by a base; the nodes at rest; and the moves that
-// can come.
+// The state of a network, updated by replies or, after many, by a base; the nodes at rest; the complete rounds;
+// and the moves and rounds that can come.
 import {carryOut, changes} from "../entries.mjs";
 import {Machine} from "../machine.mjs";
 import {movesOf, readBase, readEntry} from "../transcript.mjs";
@@ -22,6 +22,10 @@ export class Seen extends Machine {
     /** Which nodes are not at rest. */
     this.restless = new Uint8Array(names + 1);
     this.left = 0;
+    /** The rounds that are complete since the last edit or fault, or since the base that the network goes on from. */
+    this.rounds = 0;
+    /** The most rounds that can come before the next edit or fault. */
+    this.roundsLeft = 0;
   }
 
   /**
@@ -37,7 +41,7 @@ export class Seen extends Machine {
 
   /**
    * @param {string} text whole lines, all since the last call
-   * @param {import("../rudekpi/engine.mjs").Session} session
+   * @param {import("../rudekpi/engine.mjs").Session} session that counts rounds
    */
   goOn(text, session) {
     if (text.length > LONG) {
@@ -49,6 +53,8 @@ export class Seen extends Machine {
       this.follow(text);
     }
     this.left = this.enabledCount === 0 ? 0 : session.movesLeft();
+    this.rounds = session.rounds();
+    this.roundsLeft = session.roundsLeft();
     this.restless = this.here.map((present, v) => (present && !session.isAtRest(v) ? 1 : 0));
   }
 

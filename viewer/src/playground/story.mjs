@@ -1,4 +1,5 @@
-// Describes the last events: the change, how many moves came until silence, and how many were possible.
+// Describes the last events: the change, how many moves and rounds came until silence, and how many were
+// possible.
 import {counted, grouped} from "../numbers.mjs";
 
 // how many milliseconds another message stays
@@ -24,9 +25,14 @@ export function toldOf(line) {
 }
 
 /**
- * A panel's rules, the moves since its last edit or fault as the engine counts them, and whether no rule is
- * enabled.
- * @typedef {{ rules: RuleName, moves: number, isSilent: boolean }} Panel
+ * How many moves and rounds came, or can come.
+ * @typedef {{ moves: number, rounds: number }} Counts
+ */
+
+/**
+ * A panel's rules, the moves and rounds since its last edit or fault as the engine counts them, and whether no
+ * rule is enabled.
+ * @typedef {Counts & { rules: RuleName, isSilent: boolean }} Panel
  */
 
 /** @type {Record<RuleName, string>} */
@@ -34,6 +40,11 @@ const WHOSE = {
   hh: "Hsu and Huang",
   manne: "Manne and others"
 };
+
+/** @param {Counts} counts */
+function cameIn({ moves, rounds }) {
+  return `${counted(moves, "move")} and ${counted(rounds, "round")}`;
+}
 
 export class Story {
   /** @param {Element} place */
@@ -46,8 +57,8 @@ export class Story {
   open() {
     this.broken = "";
     /**
-     * The panels that the last change concerns, and the most moves that could come after it in each.
-     * @type {Map<RuleName, number>}
+     * The panels that the last change concerns, and the most that could come after it in each.
+     * @type {Map<RuleName, Counts>}
      */
     this.most = new Map();
     this.opening = true;
@@ -55,9 +66,9 @@ export class Story {
   }
 
   /**
-   * Reports a change, and for each panel how many moves can come at most after it.
+   * Reports a change, and for each panel how many moves and rounds can come at most after it.
    * @param {string} line
-   * @param {Map<RuleName, number>} most
+   * @param {Map<RuleName, Counts>} most
    */
   breaks(line, most) {
     this.broken = toldOf(line);
@@ -94,9 +105,9 @@ export class Story {
 
   /** @param {Panel[]} panels */
   mending(panels) {
-    const [{ rules, moves }] = panels;
+    const [panel] = panels;
     if (panels.length === 1) {
-      return `Mending: ${counted(moves, "move")} so far, of at most ${grouped(this.most.get(rules))}.`;
+      return `Mending: ${cameIn(panel)} so far, of at most ${this.mostOf(panel)}.`;
     }
     return `Mending: ${this.each(panels, (told, most) => `${told} so far, of at most ${most}`)}.`;
   }
@@ -106,21 +117,26 @@ export class Story {
     if (panels.every(({ moves }) => moves === 0)) {
       return "Nobody had to move.";
     }
-    const [{ rules, moves }] = panels;
+    const [panel] = panels;
     if (panels.length === 1) {
-      return `Mended in ${counted(moves, "move")}; at most ${grouped(this.most.get(rules))} could have come.`;
+      return `Mended in ${cameIn(panel)}; at most ${this.mostOf(panel)} could have come.`;
     }
     return `Mended: ${this.each(panels, (told, most) => `in ${told}, of at most ${most}`)}.`;
   }
 
   /**
    * @param {Panel[]} panels
-   * @param {(moves: string, most: string) => string} told
+   * @param {(came: string, most: string) => string} told
    */
   each(panels, told) {
-    const parts = panels.map(
-      ({ rules, moves }) => `${WHOSE[rules]} ${told(counted(moves, "move"), grouped(this.most.get(rules)))}`);
+    const parts = panels.map((panel) => `${WHOSE[panel.rules]} ${told(cameIn(panel), this.mostOf(panel))}`);
     return parts.join("; ");
+  }
+
+  /** @param {Panel} panel */
+  mostOf({ rules }) {
+    const { moves, rounds } = this.most.get(rules);
+    return `${grouped(moves)} and ${grouped(rounds)}`;
   }
 
   /**

@@ -15,6 +15,7 @@ export const NO_SESSION = 4;
 export const REFUSED = 6;
 export const DAMAGED = 7;
 export const NOT_SILENT = 8;
+export const NOT_COUNTED = 10;
 
 /** The rule sets, by the numbers that the calls take. */
 export const RULE_SET_NAMES = ["hh", "manne"];
@@ -350,6 +351,23 @@ export class Session {
   /** The most moves that can come before the next edit or fault, 0 in silence. */
   movesLeft() {
     this.hear(this.calls.rudekpi_moves_left(this.slot, this.engine.told));
+    return this.engine.entry;
+  }
+
+  /** Counts rounds from here on. Throws `EngineFault` if memory runs out. */
+  countRounds() {
+    this.hear(this.calls.rudekpi_count_rounds(this.slot));
+  }
+
+  /** How many rounds are complete since the last edit or fault, or since counting began. */
+  rounds() {
+    this.hear(this.calls.rudekpi_rounds(this.slot, this.engine.told));
+    return this.engine.entry;
+  }
+
+  /** The most rounds that can come before the next edit or fault, 0 in silence. */
+  roundsLeft() {
+    this.hear(this.calls.rudekpi_rounds_left(this.slot, this.engine.told));
     return this.engine.entry;
   }
 

@@ -1,7 +1,9 @@
 // The errors that the module throws, besides `RangeError` and `TypeError`. rudekpi.d.ts documents them.
 
-const STATUSES =
-  ["done", "not a command", "the log is full", "memory was refused", "there is no session", "out of range"];
+const STATUSES = [
+  "done", "not a command", "the log is full", "memory was refused", "there is no session", "out of range", "refused",
+  "no transcript", "not silent", "shown by no state", "rounds are not counted"
+];
 
 export class RudekpiError extends Error {
   /** @param {string} said */
@@ -49,6 +51,12 @@ export class NoReply extends MemoryError {
   constructor(entry, what = "the command was carried out, and there is no memory for its reply:") {
     super(`${what} entry ${entry}, which the transcript has`);
     this.entry = entry;
+  }
+}
+
+export class NotCounted extends RudekpiError {
+  constructor() {
+    super("rounds are not counted: call countRounds first");
   }
 }
 

@@ -2,8 +2,8 @@
 import {readBase} from "../transcript.mjs";
 import {bytesOf, summaryOf} from "./audits.mjs";
 import {numbersOfEdit, whyRefused} from "./costs.mjs";
-import {DONE, Engine, inUse, LOG_FULL, NO_MEMORY, NO_SESSION, NOT_SILENT, REFUSED, ROW_WORDS, RULE_SET_NAMES, Session} from "./engine.mjs";
-import {Ended, EngineFault, MemoryError, NoReply, Refused} from "./errors.mjs";
+import {DONE, Engine, inUse, LOG_FULL, NO_MEMORY, NO_SESSION, NOT_COUNTED, NOT_SILENT, REFUSED, ROW_WORDS, RULE_SET_NAMES, Session} from "./engine.mjs";
+import {Ended, EngineFault, MemoryError, NoReply, NotCounted, Refused} from "./errors.mjs";
 import {MOST_NODES, MOST_TURNS, Names, numberWithin, seedOf, shown} from "./names.mjs";
 import {baseOf, enabledOfRows, faultOfLine, listWith, matchingOfRows, movesOfLine, movesOfRows, REFUSALS, Wish} from "./replies.mjs";
 import {resumed} from "./resumption.mjs";
@@ -380,6 +380,20 @@ export class Network {
     return this.#engine.entry;
   }
 
+  countRounds() {
+    this.#asked(this.#calls.rudekpi_count_rounds(this.#slot));
+  }
+
+  rounds() {
+    this.#asked(this.#calls.rudekpi_rounds(this.#slot, this.#told));
+    return this.#engine.entry;
+  }
+
+  roundsLeft() {
+    this.#asked(this.#calls.rudekpi_rounds_left(this.#slot, this.#told));
+    return this.#engine.entry;
+  }
+
   get present() {
     return this.#named(this.#listed(this.#calls.rudekpi_nodes));
   }
@@ -483,6 +497,9 @@ export class Network {
     }
     if (status === NO_SESSION) {
       throw this.#ended ?? new TypeError("the network is closed");
+    }
+    if (status === NOT_COUNTED) {
+      throw new NotCounted();
     }
     if (status === NO_MEMORY) {
       throw new MemoryError("the command was not carried out, and the network is as it was");

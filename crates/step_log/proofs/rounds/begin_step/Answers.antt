@@ -1,4 +1,4 @@
-use Rattle.step_log.proofs.Prelude.{◌≤◌, CountsRounds, CountsRun, subst, sym}
+use Rattle.step_log.proofs.Prelude.{◌≡◌, ◌∙◌, ◌≤◌, CountsRounds, CountsRun, counting_in, Some, ap, subst, sym}
 use Rattle.rule_engine.specs.PreparedEvents.{net_moment}
 use Rattle.step_log.proofs.rounds.begin_step.Goals as goal
 
@@ -16,3 +16,9 @@ returns-in-Some-clause-counts g c it =
       counted = c.begin_step.ensures.counted t was.start.state was.log m.state c.enabled.ensures was.counted;
       few = subst (λ n. n ≤ m.spent) (sym c.begin_step.ensures.rounds) was.few;
     }
+
+pub returns-in-Some-clause-same : goal.returns-in-Some-clause-same
+returns-in-Some-clause-same g c =
+    let t = g.R.Rules.table in
+    let s = c.args.net.now.state in
+    ap (λ n. Some n) (c.begin_step.ensures.count t s c.enabled.ensures) ∙ sym (ap (λ o. counting_in t s o) c.in-Some.is)

@@ -6,7 +6,9 @@ use Rattle.storm_runner.proofs.storming.storm_on.Goals as goal
 pub returns-in_err-journal-clause-outcome : goal.returns-in_err-journal-clause-outcome
 returns-in_err-journal-clause-outcome g c =
     let told = c.from_residual-in_err-journal in
-    told_not_left g.R.Rules.table g.R.Rules.NODE_WEIGHT _ _ _ _ c.in_err-journal.field-0.0 told.result told.ensures.0 told.ensures.1 c.in_err-journal.ensures.fault (keeps_all (g.Out.Write.contents c.args.writer.now.writer))
+    let texts = map g.In.Read.remaining c.args.readers.items in
+    let held = subst (λ (ss : List (List ScriptLine)). AllHold texts ss) (sym c.deref.ensures.value) c.in_ok-scripts.ensures.scripts in
+    told_not_left g.R.Rules.table g.R.Rules.NODE_WEIGHT _ texts _ _ _ c.in_err-journal.field-0.0 told.result told.ensures.0 told.ensures.1 held c.in_err-journal.ensures.fault (keeps_all (g.Out.Write.contents c.args.writer.now.writer))
 
 pub returns-in_err-write_log-clause-outcome : goal.returns-in_err-write_log-clause-outcome
 returns-in_err-write_log-clause-outcome g c =

@@ -1,20 +1,34 @@
-use Rattle.step_log.proofs.Prelude.{◌∙◌, CountsRounds, CountsRun, HasRounds, Moment, Recording, ap, sym, ◌+◌, recorded_moment, subst}
-use Rattle.round_counter.specs.Counting.{pending_names}
-use Rattle.round_laws.specs.Rounds.{rounds_from}
+use Rattle.step_log.proofs.Prelude.{◌≡◌, ◌∙◌, ℕ, Option, None, Some, IfSome, ap, subst, sym, CountsRounds, CountsRun, HasRounds, Moment, Recording, RoundCounter, counting_in, recorded_moment, rounds_of}
+use Rattle.step_log.proofs.CountedRounds.{exact_rounds}
 use Rattle.step_log.proofs.recorder.Recorder.rounds.Goals as goal
 
-pub returns-in-Some : goal.returns-in-Some
-returns-in-Some g c =
+pub returns-in-Some-clause-count : goal.returns-in-Some-clause-count
+returns-in-Some-clause-count g c =
+    let t = g.R.Rules.table in
+    ap (λ (n : ℕ). Some n) c.rounds.ensures
+    ∙ sym (ap (λ (o : Option RoundCounter). rounds_of (counting_in t c.self.inside.net.state o)) c.in-Some.is)
+    ∙ ap (λ (r : Recording). rounds_of r.counting) c.self.view_is
+
+pub returns-in-Some-clause-exact : goal.returns-in-Some-clause-exact
+returns-in-Some-clause-exact g c start log calm is =
+    let t = g.R.Rules.table in
+    let told = ap (λ (n : ℕ). Some n) c.rounds.ensures
+    ∙ sym (ap (λ (o : Option RoundCounter). rounds_of (counting_in t c.self.inside.net.state o)) c.in-Some.is)
+    ∙ ap (λ (r : Recording). rounds_of r.counting) c.self.view_is in
+    exact_rounds t start log _ _ told calm is
+
+pub returns-in-Some-clause-some : goal.returns-in-Some-clause-some
+returns-in-Some-clause-some g c =
     let t = g.R.Rules.table in
     let m : Moment = record { state = c.self.inside.net.state; spent = c.self.inside.net.spent } in
-    let counts : CountsRun t m c.in-Some.counter = subst (λ o. CountsRounds t m o) c.in-Some.is c.self.invariant.counts in
-    subst (λ (r : Recording). HasRounds t (recorded_moment r) c.rounds.result) c.self.view_is (record {
+    let counts : CountsRun t m c.in-Some.counter = subst (λ (o : Option RoundCounter). CountsRounds t m o) c.in-Some.is c.self.invariant.counts in
+    subst (λ (r : Recording). IfSome r.counting (λ count. HasRounds t (recorded_moment r) count)) c.self.view_is
+    (subst (λ (o : Option RoundCounter). IfSome (counting_in t m.state o) (λ count. HasRounds t m count)) (sym c.in-Some.is) (record {
       start = counts.start;
       is_state = counts.is_state;
       log = counts.log;
       run = counts.run;
       calm = counts.calm;
-      rounds_are = c.rounds.ensures ∙ counts.counted.rounds;
-      pending = pending_names t m.state c.in-Some.counter;
-      later = λ rest. counts.counted.later rest ∙ ap (λ n. n + rounds_from t m.state (pending_names t m.state c.in-Some.counter) rest) (sym c.rounds.ensures);
-    })
+      rounds_are = counts.counted.rounds;
+      later = counts.counted.later;
+    }))

@@ -1,0 +1,113 @@
+-- The texts of runs are accepted.
+use Rattle.std.proofs.Common.{◌≡◌, ℕ, ◌+◌, ◌≤◌, List, [], ◌++◌, length, refl, sym, ap, ◌∙◌, append-nil, arith}
+use Rattle.rule_machine.specs.declared.rules.RuleSet.{RuleSet}
+use Rattle.rule_machine.specs.Base.{LogPart, NumberedMoment, base_of, entries_in}
+use Rattle.rule_machine.specs.Run.{Entry, beginning_with}
+use Rattle.rule_machine.specs.Tables.{table_of}
+use Rattle.machine_laws.proofs.Bases.{passes_run}
+use Rattle.line_text.specs.BaseText.{base_text}
+use Rattle.line_text.specs.EntryText.{header_line}
+use Rattle.entry_grammar.specs.Spelling.{max_entries}
+use Rattle.script_text.specs.Script.{Progress}
+use Rattle.run_session.specs.RunStart.{first_progress}
+use Rattle.auditor.specs.declared.end.TranscriptEnd.{TranscriptEnd}
+use Rattle.auditor.specs.declared.summary.Summary.{Summary}
+use Rattle.auditor.specs.AcceptedRuns.{IsAccepted}
+use Rattle.auditor.specs.Parts.{Based, Named, Opening, size_of}
+use Rattle.auditor.specs.Transcript.{IsTranscript, epoch_count, move_count}
+use Rattle.auditor.specs.TranscriptEnds.{IsTranscriptEnd, end_moment}
+use Rattle.audit_parts.proofs.CutTranscripts.{reopens_end}
+use Rattle.command_line.specs.Written.{IsWrittenBehind, LinesReachEnd, moment_of, start_behind}
+use Rattle.command_line.proofs.Growth.{base_added, size_same}
+use Rattle.command_line.proofs.AcceptedLines.{reached}
+
+-- the counts of a log
+abbrev pub summary_of : List Entry → Summary
+summary_of log = record { entries = length log; epochs = epoch_count log; moves = move_count log }
+
+pub accepted : (bytes : List ℕ) (rules : RuleSet) (o : Opening) (log : List LogPart) (end : NumberedMoment) → IsTranscript bytes rules o log end → IsAccepted bytes (summary_of (entries_in log))
+accepted bytes rules o log end is = record {
+  rules = rules;
+  opening = o;
+  log = log;
+  end = end;
+  transcript = is;
+  counts = record { entries = refl; epochs = refl; moves = refl };
+}
+
+-- all of a run's entries, but for those that its opening has dropped
+counted : (bytes : List ℕ) (rules : RuleSet) (o : Opening) (log : List LogPart) (end : NumberedMoment) (is : IsTranscript bytes rules o log end) → end.count ≡ is.start.count + length (entries_in log)
+counted bytes rules o log end is = (passes_run (table_of rules) is.start end log is.passes).1
+
+-- ---- a run from the beginning
+
+pub first_written : (rules : RuleSet) (nodes present : ℕ) → nodes ≤ 65535 → present ≤ nodes → IsWrittenBehind [] (Named nodes present) (first_progress rules nodes present)
+first_written rules nodes present few within = (
+  [],
+  record {
+    start = record { moment = beginning_with nodes present; count = 0 };
+    opens = record { fits = record { few = few; within = within }; begins = refl; count = refl };
+    text = sym (append-nil (header_line rules nodes present));
+    parts = tt;
+    not_too_many = omega arith;
+    passes = refl;
+  },
+)
+
+pub runs_accepted : (rules : RuleSet) (nodes present limit : ℕ) (lines : List (List ℕ)) (end : Progress) → nodes ≤ 65535 → present ≤ nodes → limit ≤ max_entries → LinesReachEnd (table_of rules) limit lines (first_progress rules nodes present) end → (c : Summary) × IsAccepted end.text c × (c.entries ≡ end.count)
+runs_accepted rules nodes present limit lines end few within most reach =
+    let start = first_progress rules nodes present in
+    let o = Named nodes present in
+    let ends = (reached [] o rules limit most lines start end refl (first_written rules nodes present few within) reach).1 in
+    let is = ends.1 in
+    let all = counted end.text end.rules o ends.0 (moment_of end) is in
+    let none = is.opens.count in
+    (summary_of (entries_in ends.0), accepted end.text end.rules o ends.0 (moment_of end) is, omega (arith, all, none))
+
+-- ---- a run that goes on
+
+module _ (first : List ℕ) (from : TranscriptEnd) (is : IsTranscriptEnd first from) where
+  at_end : IsTranscript first from.rules is.opening is.log (end_moment from)
+  at_end = is.transcript
+
+  -- behind the first text
+  pub joined_start : IsWrittenBehind first is.opening (start_behind from)
+  joined_start = (_, base_added first from.rules is.opening is.log (end_moment from) at_end)
+
+  -- alone
+  abbrev pub own_base : Opening
+  own_base = Based (size_of is.opening) (base_of from.number (end_moment from).moment)
+
+  pub own_start : IsWrittenBehind [] own_base (start_behind from)
+  own_start = (
+    [],
+    record {
+      start = end_moment from;
+      opens = reopens_end first from.rules is.opening is.log (end_moment from) at_end;
+      text = ap (λ (n : ℕ). base_text from.rules n (base_of from.number (end_moment from).moment)) (size_same first from.rules is.opening is.log (end_moment from) at_end) ∙ sym (append-nil _);
+      parts = tt;
+      not_too_many = at_end.not_too_many;
+      passes = refl;
+    },
+  )
+
+  pub alone_accepted : (limit : ℕ) (lines : List (List ℕ)) (end : Progress) → limit ≤ max_entries → LinesReachEnd (table_of from.rules) limit lines (start_behind from) end → (c : Summary) × IsAccepted end.text c × (c.entries + from.number ≡ end.count)
+  alone_accepted limit lines end most reach =
+      let ends = (reached [] own_base from.rules limit most lines (start_behind from) end refl own_start reach).1 in
+      let run = ends.1 in
+      let all = counted end.text end.rules own_base ends.0 (moment_of end) run in
+      let before = run.opens.count in
+      (summary_of (entries_in ends.0), accepted end.text end.rules own_base ends.0 (moment_of end) run, omega (arith, all, before))
+
+  -- the opening says how many entries were before
+  pub joined_accepted : (limit : ℕ) (lines : List (List ℕ)) (end : Progress) → limit ≤ max_entries → LinesReachEnd (table_of from.rules) limit lines (start_behind from) end → (c : Summary) × IsAccepted (first ++ end.text) c × (c.entries + from.number ≡ from.summary.entries + end.count)
+  joined_accepted limit lines end most reach =
+      let o = is.opening in
+      let ends = (reached first o from.rules limit most lines (start_behind from) end refl joined_start reach).1 in
+      let run = ends.1 in
+      let all = counted (first ++ end.text) end.rules o ends.0 (moment_of end) run in
+      let begun = run.opens.count in
+      let own = counted first from.rules o is.log (end_moment from) at_end in
+      let before = at_end.opens.count in
+      let entries = is.counts.entries in
+      (summary_of (entries_in ends.0), accepted (first ++ end.text) end.rules o ends.0 (moment_of end) run, omega (arith, all, begun, own, before, entries))

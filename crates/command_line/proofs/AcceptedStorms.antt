@@ -1,0 +1,64 @@
+-- What a storm writes is accepted.
+use Rattle.std.proofs.Common.{◌≡◌, ◌∙◌, ◌≤◌, ◌+◌, ℕ, inl, inr, List, [], ◌∷◌, ◌++◌, Option, None, Some, Result, Ok, Err, refl, ap, subst, sym}
+use Rattle.std.specs.List.{AllByRecursion}
+use Rattle.rule_machine.specs.declared.base.Base.{Base}
+use Rattle.rule_machine.specs.declared.rules.RuleSet.{RuleSet}
+use Rattle.rule_machine.specs.Tables.{table_of, weight_of}
+use Rattle.rule_machine.specs.Base.{dropped}
+use Rattle.rule_machine.specs.Run.{Entry}
+use Rattle.line_text.specs.EntryText.{entry_lines}
+use Rattle.step_log.specs.RetainedLogs.{RetainedLog}
+use Rattle.locked_net.specs.declared.call_fault.CallFault.{CallFault}
+use Rattle.script_run.specs.Restarts.{RestartView}
+use Rattle.script_run.specs.RunOptions.{OptionsView}
+use Rattle.step_log.proofs.ReplyKinds.{nodes_few}
+use Rattle.auditor.specs.Parts.{opening_text}
+use Rattle.auditor.specs.Transcript.{IsEntryValue}
+use Rattle.audit_parts.specs.Laws.{IsAcceptedText}
+use Rattle.storm_runner.specs.declared.fault.StormFault.{StormFault}
+use Rattle.storm_runner.specs.declared.fault.StormFault.TheVariants.{TooManyScripts, BadLine, LogFull, Read, Write, Memory, Behind, Thread, Unsettled}
+use Rattle.storm_runner.specs.Outcome.{EndsAllScripts, IsResumedStorm, LeavesText, StormStart, resumed_start, text_of}
+use Rattle.storm_runner.specs.RetainedText.{AreWritable, IsWritableEntry, retained_opening}
+use Rattle.command_line.specs.StormTexts.{SomeAccepted, WritesAccepted}
+use Rattle.command_line.specs.Written.{log_text, opening_of}
+use Rattle.command_line.proofs.KeptLogs.{kept_accepted}
+
+values_of : (log : List Entry) → AreWritable log → AllByRecursion IsEntryValue log
+values_of [] all = tt
+values_of (entry ∷ log) all = (record { event = all.0.event; reply = all.0.reply; fits = all.0.fits }, values_of log all.1)
+
+opening_is : (rules : RuleSet) (size present : ℕ) (base : Option Base) → opening_text rules (opening_of size present base) ≡ retained_opening rules size present size base
+opening_is rules size present None = refl
+opening_is rules size present (Some base) = refl
+
+-- the log's text is that of its own names and nodes
+text_is : (asked : OptionsView) (kept : RetainedLog) → kept.state.network.size ≡ asked.nodes → kept.present ≡ asked.present → log_text asked.rules kept ≡ text_of asked kept
+text_is asked kept nodes present =
+    ap (λ (l : List ℕ). l ++ entry_lines (dropped kept.base + 1) kept.entries)
+    (opening_is asked.rules kept.state.network.size kept.present kept.base
+    ∙ ap (λ (n : ℕ). retained_opening asked.rules n kept.present kept.state.network.size kept.base) nodes
+    ∙ ap (λ (n : ℕ). retained_opening asked.rules asked.nodes n kept.state.network.size kept.base) present)
+
+module _ (at : StormStart) (texts : List (Option (List ℕ))) (within : at.asked.present ≤ at.asked.nodes) where
+  accepted : (fault : Option CallFault) (P : List ℕ → Type 0) → LeavesText (table_of at.asked.rules) (weight_of at.asked.rules) at texts fault P → SomeAccepted P
+  accepted fault P (scripts, kept, held, leaves, (values, p)) =
+      let fits = subst (λ (n : ℕ). n ≤ kept.state.network.size) (sym leaves.present_is) (subst (λ (n : ℕ). at.asked.present ≤ n) (sym leaves.nodes_are) within) in
+      let is = kept_accepted at.asked.rules kept leaves.run fits (values_of kept.entries values) in
+      (text_of at.asked kept, subst IsAcceptedText (text_is at.asked kept leaves.nodes_are leaves.present_is) (is.0, is.1), p)
+
+  pub storm_accepted : (old new : Option (List ℕ)) (result : Result Unit StormFault) → EndsAllScripts (table_of at.asked.rules) (weight_of at.asked.rules) at texts old new result → WritesAccepted old new result
+  storm_accepted old new (Ok done) left = accepted _ _ left
+  storm_accepted old new (Err LogFull) left = accepted _ _ left
+  storm_accepted old new (Err Behind) (front, seen, left) = accepted _ _ left
+  storm_accepted old new (Err Memory) (inl left) = inl (accepted _ _ left)
+  storm_accepted old new (Err Memory) (inr nothing) = inr nothing
+  storm_accepted old new (Err Write) (fault, left) = accepted fault _ left
+  storm_accepted old new (Err (Unsettled why)) (other, unsettled, nothing) = nothing
+  storm_accepted old new (Err TooManyScripts) (many, nothing) = nothing
+  storm_accepted old new (Err (BadLine script line)) (bad, nothing) = nothing
+  storm_accepted old new (Err Read) (some, nothing) = nothing
+  storm_accepted old new (Err Thread) never = absurd never
+
+-- a storm that goes on begins with no more nodes than names
+pub resumed_storm_accepted : (from : RestartView) (texts : List (Option (List ℕ))) (old new : Option (List ℕ)) (result : Result Unit StormFault) → IsResumedStorm from texts old new result → WritesAccepted old new result
+resumed_storm_accepted from texts old new result ends = storm_accepted (resumed_start from) texts (nodes_few from.state.network) old new result ends

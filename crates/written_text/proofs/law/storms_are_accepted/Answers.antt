@@ -1,9 +1,0 @@
-use Rattle.storm_runner.specs.Outcome.{opening_start}
-use Rattle.written_text.proofs.Storms.{resumed_storm_accepted, storm_accepted}
-use Rattle.written_text.proofs.law.storms_are_accepted.Goals as goal
-
-pub returns-clause-storm : goal.returns-clause-storm
-returns-clause-storm c asked texts old new result within ends = storm_accepted (opening_start asked) texts within old new result ends
-
-pub returns-clause-resumed : goal.returns-clause-resumed
-returns-clause-resumed c from texts old new result ends = resumed_storm_accepted from texts old new result ends
