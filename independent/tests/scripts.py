@@ -4,6 +4,7 @@ from __future__ import annotations
 
 import os
 import random as randoms
+import re
 import subprocess
 import sys
 from typing import Callable, Iterable, Iterator
@@ -14,13 +15,14 @@ CONSOLE = os.environ.get("CONSOLE", HERE + "/../../console")
 AUDIT2 = os.environ.get("AUDIT2", HERE + "/../out/audit2")
 RUN2 = os.environ.get("RUN2", HERE + "/../out/run2")
 DIFFERENT = os.environ.get("DIFFERENT", HERE + "/../out/different")
+# why a line is no command: the program alone says so, in a second line
+REASON = re.compile(rb"\A(! line [0-9]+: not a command\n)! [^\n]+\n\Z")
 
 
 def called(words: list[str], text: bytes) -> tuple[int, bytes, bytes]:
     """The exit status and what was written, as bytes: to standard output and to standard error."""
     done = subprocess.run(words, input=text, stdout=subprocess.PIPE, stderr=subprocess.PIPE, check=False)
-    # why a line is bad stands in a second line, which the program alone writes
-    return done.returncode, done.stdout, done.stderr.split(b"\n")[0]
+    return done.returncode, done.stdout, REASON.sub(rb"\1", done.stderr)
 
 
 def opening(rules: str, nodes: int, present: int) -> tuple[list[str], list[str]]:

@@ -28,9 +28,9 @@ pub use Rattle.auditor.specs.declared.fault.AuditFault.TheVariants.{BadHeader, N
 pub use Rattle.auditor.specs.declared.summary.Summary.{Summary}
 pub use Rattle.byte_streams.proofs.FirstLines.{first_line-splits, no_first_line}
 pub use Rattle.byte_streams.specs.Lines.{first_line}
-pub use Rattle.charge_laws.proofs.EdgesByNodes.{edges_without_repeats}
-pub use Rattle.charge_laws.proofs.ListCounts.{IsIn, count_all, count_into}
-pub use Rattle.charge_laws.proofs.Members.{edges_len, edges_contain, in_edges}
+pub use Rattle.machine_laws.proofs.EdgesByNodes.{edges_without_repeats}
+pub use Rattle.machine_laws.proofs.ListCounts.{IsIn, count_all, count_into}
+pub use Rattle.machine_laws.proofs.Members.{edges_len, edges_contain, in_edges}
 pub use Rattle.entry_grammar.proofs.BaseBreaks.{fit_both, fit_edges, fit_places}
 pub use Rattle.entry_grammar.proofs.BaseLines.{spells_base_line_once}
 pub use Rattle.entry_grammar.proofs.BaseOnce.{base_text_is, lines_follow, lines_text}
@@ -64,8 +64,8 @@ pub use Rattle.rule_machine.specs.declared.refusal.Refusal.{Refusal}
 pub use Rattle.rule_machine.specs.declared.refusal.Refusal.TheVariants.{UnknownNode, SelfLoop, AlreadyLinked, TooManyEdges}
 pub use Rattle.rule_machine.specs.declared.reply.Reply.{Reply}
 pub use Rattle.rule_machine.specs.declared.reply.Reply.TheVariants.{Accepted, Moves, Shown, EnabledAre, Pairs}
-pub use Rattle.rule_machine.specs.declared.rules.RuleSet.{RuleSet}
-pub use Rattle.rule_machine.specs.declared.rules.RuleSet.TheVariants.{Hh, Manne}
+pub use Rattle.rule_machine.specs.declared.rule_set.RuleSet.{RuleSet}
+pub use Rattle.rule_machine.specs.declared.rule_set.RuleSet.TheVariants.{Hh, Manne}
 pub use Rattle.audit_parts.specs.Continuations.{ContinuesRun, base_at, end_base}
 pub use Rattle.audit_parts.specs.FieldRanges.{AreLinesBefore}
 pub use Rattle.audit_parts.specs.Laws.{AcceptedIsContinued, AcceptedIsShort, AcceptedIsWhole, HasShortLines, IsShortLine, AllPartsAreAccepted, AreParts, BasesAreSeams, ContinuedIsDamaged, EndBasesAreAccepted, EndsAreContinued, FirstDamageStays, HasVerdict, IsAcceptedText, JoinedIsAccepted, PartsAreAccepted, PartsAreJudged, SecondDamageMoves}

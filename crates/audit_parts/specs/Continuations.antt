@@ -1,9 +1,9 @@
 -- Texts of runs that go on where the run of another text ends.
 use Rattle.std.specs.Prelude.{◌≡◌, ℕ, List, ◌++◌}
-use Rattle.rule_machine.specs.declared.rules.RuleSet.{RuleSet}
+use Rattle.rule_machine.specs.declared.rule_set.RuleSet.{RuleSet}
 use Rattle.rule_machine.specs.Base.{LogPart, NumberedMoment, base_of}
 use Rattle.line_text.specs.BaseText.{base_text}
-use Rattle.auditor.specs.declared.end.TranscriptEnd.{TranscriptEnd}
+use Rattle.auditor.specs.declared.transcript_end.TranscriptEnd.{TranscriptEnd}
 use Rattle.auditor.specs.Parts.{Opening}
 use Rattle.auditor.specs.Transcript.{IsTranscript}
 use Rattle.auditor.specs.TranscriptEnds.{end_moment}

@@ -2,7 +2,7 @@
 use Rattle.std.specs.Prelude.{◌≡◌, ℕ, ◌≤◌, List, [], ◌∷◌, ◌++◌, length}
 use Rattle.std.specs.List.{AllByRecursion}
 use Rattle.rule_machine.specs.declared.base.Base.{Base}
-use Rattle.rule_machine.specs.declared.rules.RuleSet.{RuleSet}
+use Rattle.rule_machine.specs.declared.rule_set.RuleSet.{RuleSet}
 use Rattle.byte_streams.specs.Lines.{IsLine}
 use Rattle.line_text.specs.BaseText.{base_text}
 use Rattle.line_text.specs.Words.{lines_with_ends}
@@ -10,7 +10,7 @@ use Rattle.entry_grammar.specs.BaseLines.{IsShaped}
 use Rattle.auditor.specs.declared.fault.AuditFault.{AuditFault}
 use Rattle.auditor.specs.declared.summary.Summary.{Summary}
 use Rattle.auditor.specs.AcceptedRuns.{IsAccepted}
-use Rattle.auditor.specs.declared.end.TranscriptEnd.{TranscriptEnd}
+use Rattle.auditor.specs.declared.transcript_end.TranscriptEnd.{TranscriptEnd}
 use Rattle.auditor.specs.Damage.{BeginsBase, IsDamage, line_feeds}
 use Rattle.auditor.specs.TranscriptEnds.{IsTranscriptEnd}
 use Rattle.auditor.specs.Verdict.{IsJudged}

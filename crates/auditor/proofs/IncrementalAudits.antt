@@ -1,6 +1,6 @@
 -- An audit that is fed piece by piece.
 use Rattle.auditor.proofs.Prelude.{◌≡◌, ℕ, List, [], ◌++◌, Option, None, Some, Result, Err, refl, sym, ap, subst, append_assoc, append-nil, IsErrOf, result_err, same_Some, ∥∥₁_elim, ∥∥₁_map, AuditFault, Read, IncrementalAudit, IsRead, IsIncrementalAudit, IsJudged}
-use Rattle.auditor.specs.declared.end.TranscriptEnd.{TranscriptEnd}
+use Rattle.auditor.specs.declared.transcript_end.TranscriptEnd.{TranscriptEnd}
 use Rattle.auditor.specs.TranscriptEnds.{EndsRun, summary_in}
 use Rattle.auditor.proofs.VerdictUniqueness.{judged_read}
 use Rattle.auditor.proofs.TranscriptEnds.{ends_judged}

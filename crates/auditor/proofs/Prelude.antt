@@ -16,15 +16,15 @@ pub use Rattle.std.specs.Result.{result_err}
 pub use Rattle.std.specs.declared.cmp.Ordering.TheVariants.{Less, Equal, Greater}
 pub use Rattle.byte_streams.proofs.FirstLines.{first_line-splits, first_line-ended, first_line-is, first_line-then, no_first_line}
 pub use Rattle.byte_streams.specs.Lines.{first_line}
-pub use Rattle.charge_laws.proofs.CostsOfRuns.{hsu_huang_path_costs, manne_path_costs}
-pub use Rattle.charge_laws.proofs.Epochs.{epochs_are_bounded}
-pub use Rattle.charge_laws.proofs.Laws.{hsu_huang_charged, manne_charged}
-pub use Rattle.charge_laws.proofs.Runs.{run_within}
-pub use Rattle.charge_laws.proofs.RunsFromBases.{begins_once, begins_in_state, begins_within, may_begin_again}
-pub use Rattle.charge_laws.proofs.Tables.{hsu_huang_table, manne_table, hsu_huang_flagless, manne_flagless}
-pub use Rattle.charge_laws.specs.ChargeWords.{moves_in, moves_of, charge_bound, IsCharged, IsWithinBound}
-pub use Rattle.charge_laws.specs.Costs.{answer_cost, path_cost, path_entries}
-pub use Rattle.charge_laws.specs.Epochs.{IsPath}
+pub use Rattle.machine_laws.proofs.CostsOfRuns.{hsu_huang_path_costs, manne_path_costs}
+pub use Rattle.machine_laws.proofs.Epochs.{epochs_are_bounded}
+pub use Rattle.machine_laws.proofs.Laws.{hsu_huang_charged, manne_charged}
+pub use Rattle.machine_laws.proofs.ChargesOfRuns.{run_within}
+pub use Rattle.machine_laws.proofs.RunsFromBases.{begins_once, begins_in_state, begins_within, may_begin_again}
+pub use Rattle.machine_laws.proofs.Tables.{hsu_huang_table, manne_table, hsu_huang_flagless, manne_flagless}
+pub use Rattle.machine_laws.specs.ChargeWords.{moves_in, moves_of, charge_bound, IsCharged, IsWithinBound}
+pub use Rattle.machine_laws.specs.Costs.{answer_cost, path_cost, path_entries}
+pub use Rattle.machine_laws.specs.Epochs.{IsPath}
 pub use Rattle.entry_grammar.proofs.BaseBreaks.{first_breaks, node_breaks, edge_breaks, by_error}
 pub use Rattle.entry_grammar.proofs.BaseLines.{spells_base_line_once}
 pub use Rattle.entry_grammar.proofs.BaseLists.{NodesSoFar, EdgesSoFar, lines_break, no_lines, one_more}
@@ -72,8 +72,8 @@ pub use Rattle.rule_machine.specs.declared.refusal.Refusal.{Refusal}
 pub use Rattle.rule_machine.specs.declared.refusal.Refusal.TheVariants.{UnknownNode}
 pub use Rattle.rule_machine.specs.declared.reply.Reply.{Reply}
 pub use Rattle.rule_machine.specs.declared.reply.Reply.TheVariants.{Accepted, Refused, Moves, Shown, EnabledAre, Pairs}
-pub use Rattle.rule_machine.specs.declared.rules.RuleSet.{RuleSet}
-pub use Rattle.rule_machine.specs.declared.rules.RuleSet.TheVariants.{Hh, Manne}
+pub use Rattle.rule_machine.specs.declared.rule_set.RuleSet.{RuleSet}
+pub use Rattle.rule_machine.specs.declared.rule_set.RuleSet.TheVariants.{Hh, Manne}
 pub use Rattle.auditor.specs.AcceptedRuns.{Counts, IsAccepted, IsPositionAfter}
 pub use Rattle.auditor.specs.AuditPieces.{HasReadPieces}
 pub use Rattle.auditor.specs.Damage.{BeginsWithTranscript, TranscriptPrefix, BeginsBase, IsLineBehind, HasNoEntry, HasBadHeader, IsDamage, CommonPrefix, SpellsNoHead, SpellsNoHeader, line_feeds, HasBadStart, HasBrokenBase, HasImpossibleBase, EntryComes, EndsInBadBase}
@@ -87,9 +87,9 @@ pub use Rattle.auditor.specs.Verdict.{IsJudged, IsAuditFault, IsAuditResult, Acc
 pub use Rattle.auditor.specs.declared.epoch.CostedEpoch.{CostedEpoch}
 pub use Rattle.auditor.specs.declared.fault.AuditFault.{AuditFault}
 pub use Rattle.auditor.specs.declared.fault.AuditFault.TheVariants.{BadHeader, NotALine, OutOfOrder, NotTheMachines, BadBase, Read, Memory}
-pub use Rattle.auditor.specs.declared.judging.IncrementalAudit.{IncrementalAudit}
-pub use Rattle.auditor.specs.declared.reach.ReplayFault.{ReplayFault}
-pub use Rattle.auditor.specs.declared.reach.ReplayFault.TheVariants.{Judged, TooFew, Forgotten}
-pub use Rattle.auditor.specs.declared.reach.ReplayedRun.{ReplayedRun}
-pub use Rattle.auditor.specs.declared.replay.TranscriptCursor.{TranscriptCursor}
+pub use Rattle.auditor.specs.declared.incremental_audit.IncrementalAudit.{IncrementalAudit}
+pub use Rattle.auditor.specs.declared.replayed_run.ReplayFault.{ReplayFault}
+pub use Rattle.auditor.specs.declared.replayed_run.ReplayFault.TheVariants.{Judged, TooFew, Forgotten}
+pub use Rattle.auditor.specs.declared.replayed_run.ReplayedRun.{ReplayedRun}
+pub use Rattle.auditor.specs.declared.transcript_cursor.TranscriptCursor.{TranscriptCursor}
 pub use Rattle.auditor.specs.declared.summary.Summary.{Summary}

@@ -1,6 +1,6 @@
 -- The bytes that an audit accepts, and how far an audit has read them.
 use Rattle.std.specs.Prelude.{◌≡◌, ℕ, List, length}
-use Rattle.rule_machine.specs.declared.rules.RuleSet.{RuleSet}
+use Rattle.rule_machine.specs.declared.rule_set.RuleSet.{RuleSet}
 use Rattle.rule_machine.specs.Base.{LogPart, NumberedMoment, entries_in}
 use Rattle.rule_machine.specs.Run.{Entry}
 use Rattle.auditor.specs.declared.summary.Summary.{Summary}

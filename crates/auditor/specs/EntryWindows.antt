@@ -1,14 +1,14 @@
 -- Transcripts that are read only up to an entry.
 use Rattle.std.specs.Prelude.{◌≡◌, ℕ, ◌<◌, ◌≤◌, ◌⊎◌, Bool, true, nat_lt, List, [], Option, None, Some}
 use Rattle.std.proofs.Common.{inl, inr}
-use Rattle.rule_machine.specs.declared.rules.RuleSet.{RuleSet}
+use Rattle.rule_machine.specs.declared.rule_set.RuleSet.{RuleSet}
 use Rattle.rule_machine.specs.State.{State}
 use Rattle.rule_machine.specs.declared.base.EpochStart.{EpochStart}
 use Rattle.rule_machine.specs.Base.{LogPart, NumberedMoment, begun_at}
 use Rattle.auditor.specs.declared.fault.AuditFault.{AuditFault}
 use Rattle.auditor.specs.declared.fault.AuditFault.TheVariants.{BadHeader, NotALine, OutOfOrder, NotTheMachines, BadBase, Read, Memory}
-use Rattle.auditor.specs.declared.reach.ReplayFault.{ReplayFault}
-use Rattle.auditor.specs.declared.reach.ReplayFault.TheVariants.{Judged, TooFew, Forgotten}
+use Rattle.auditor.specs.declared.replayed_run.ReplayFault.{ReplayFault}
+use Rattle.auditor.specs.declared.replayed_run.ReplayFault.TheVariants.{Judged, TooFew, Forgotten}
 use Rattle.auditor.specs.Parts.{Opening, base_in, size_of}
 use Rattle.auditor.specs.Transcript.{IsTranscript}
 use Rattle.auditor.specs.Damage.{BeginsWithTranscript, IsDamage}

@@ -1,13 +1,13 @@
 -- Going through a transcript with a cursor that keeps only the bytes after the judged parts.
 use Rattle.std.specs.Prelude.{◌≡◌, ◌≢◌, ℕ, ◌+◌, ◌<◌, ◌≤◌, ◌^◌, ◌⊎◌, List, [], ◌++◌, length, take, slice_index, Option, None, Some, Err}
-use Rattle.rule_machine.specs.declared.rules.RuleSet.{RuleSet}
+use Rattle.rule_machine.specs.declared.rule_set.RuleSet.{RuleSet}
 use Rattle.rule_machine.specs.Base.{base_of}
 use Rattle.line_text.specs.BaseText.{base_head, base_text}
 use Rattle.byte_streams.specs.Lines.{first_line}
 use Rattle.entry_grammar.specs.BaseLines.{BreaksAt}
 use Rattle.auditor.specs.declared.fault.AuditFault.{AuditFault}
-use Rattle.auditor.specs.declared.judging.IncrementalAudit.{IncrementalAudit}
-use Rattle.auditor.specs.declared.replay.TranscriptCursor.{TranscriptCursor}
+use Rattle.auditor.specs.declared.incremental_audit.IncrementalAudit.{IncrementalAudit}
+use Rattle.auditor.specs.declared.transcript_cursor.TranscriptCursor.{TranscriptCursor}
 use Rattle.auditor.specs.AcceptedRuns.{IsPositionAfter}
 use Rattle.auditor.specs.Damage.{BeginsBase, line_feeds}
 use Rattle.auditor.specs.Position.{IsFurther, stand_of}

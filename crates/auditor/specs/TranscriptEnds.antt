@@ -3,8 +3,8 @@ use Rattle.std.specs.Prelude.{◌≡◌, ◌⊎◌, ◌+◌, ◌≤◌, ℕ, fal
 use Rattle.rule_machine.specs.Base.{LogPart, NumberedMoment, entries_in}
 use Rattle.rule_machine.specs.State.{flag}
 use Rattle.rule_machine.specs.Tables.{table_of, weight_of}
-use Rattle.charge_laws.specs.ChargeWords.{charge_bound}
-use Rattle.auditor.specs.declared.end.TranscriptEnd.{TranscriptEnd}
+use Rattle.machine_laws.specs.ChargeWords.{charge_bound}
+use Rattle.auditor.specs.declared.transcript_end.TranscriptEnd.{TranscriptEnd}
 use Rattle.auditor.specs.declared.fault.AuditFault.{AuditFault}
 use Rattle.auditor.specs.declared.fault.AuditFault.TheVariants.{Read}
 use Rattle.auditor.specs.declared.summary.Summary.{Summary}

@@ -9,7 +9,7 @@ ghost use Rattle.auditor.specs.Position.{counted_part, stand_of};
 ghost use Rattle.auditor.specs.Verdict.{IsJudged};
 
 use crate::check::Audit;
-use crate::replay::TranscriptCursor;
+use crate::transcript_cursor::TranscriptCursor;
 use crate::{AuditFault, CostedEpoch, Epoch, Summary};
 use byte_streams::split_line;
 use entry_grammar::{EntryFault, read_entry};

@@ -1,7 +1,7 @@
 //! Laws of transcripts and their damages: each function does nothing, and its contract is the law.
 
 ghost use Rattle.std.specs.Prelude.{◌≡◌, ℕ, List};
-ghost use Rattle.rule_machine.specs.declared.rules.RuleSet.{RuleSet};
+ghost use Rattle.rule_machine.specs.declared.rule_set.RuleSet.{RuleSet};
 ghost use Rattle.rule_machine.specs.Base.{LogPart, NumberedMoment};
 ghost use Rattle.auditor.specs.declared.fault.AuditFault.{AuditFault};
 ghost use Rattle.auditor.specs.declared.summary.Summary.{Summary};

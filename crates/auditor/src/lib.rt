@@ -20,20 +20,19 @@
 #![tactic(auto)]
 
 mod check;
-mod end;
 mod epoch;
 mod epoch_list;
 mod fault;
-mod judging;
+mod incremental_audit;
 mod laws;
 mod lines;
-mod pieces;
-mod reach;
-mod replay;
+mod piece_audit;
+mod replayed_run;
 mod summary;
 mod transcript;
+mod transcript_cursor;
+mod transcript_end;
 
-pub use end::TranscriptEnd;
 pub use epoch::{CostedEpoch, Epoch};
 pub use epoch_list::{Epochs, epochs_of};
 pub use fault::AuditFault;
@@ -41,7 +40,8 @@ pub use laws::{
     one_count, one_damage, one_run, transcript_has_no_damage, undamaged_is_a_transcript,
 };
 pub use lines::MAX_LINE;
-pub use pieces::PieceAudit;
-pub use reach::{ReplayFault, ReplayedRun, state_after};
+pub use piece_audit::PieceAudit;
+pub use replayed_run::{ReplayFault, ReplayedRun, state_after};
 pub use summary::Summary;
 pub use transcript::{audit, audit_bytes, end_of, end_of_bytes};
+pub use transcript_end::TranscriptEnd;

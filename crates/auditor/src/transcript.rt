@@ -8,8 +8,8 @@ ghost use Rattle.auditor.specs.AcceptedRuns.{IsAccepted};
 ghost use Rattle.auditor.specs.TranscriptEnds.{EndsRun, IsEndResult, IsTranscriptEnd, MayGoOn, summary_in};
 ghost use Rattle.auditor.specs.Verdict.{IsJudged, IsAuditFault, AcceptsRuns, JudgesDamage, JudgesRuns, NamesDamage};
 
-use crate::end::summary_of;
-use crate::judging::judge_text;
+use crate::incremental_audit::judge_text;
+use crate::transcript_end::summary_of;
 use crate::{AuditFault, PieceAudit, Summary, TranscriptEnd};
 use byte_streams::{CountingReader, chunk_of};
 use std::alloc::Global;

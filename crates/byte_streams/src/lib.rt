@@ -14,16 +14,16 @@
 //! ```
 #![tactic(auto)]
 
+mod counting_reader;
+mod fail_stop_writer;
 mod input_fault;
 mod lines;
 mod output_fault;
-mod reads;
 mod whole;
-mod writes;
 
+pub use counting_reader::{CountingReader, chunk_of};
+pub use fail_stop_writer::FailStopWriter;
 pub use input_fault::InputFault;
 pub use lines::split_line;
 pub use output_fault::OutputFault;
-pub use reads::{CountingReader, chunk_of};
 pub use whole::read_whole;
-pub use writes::FailStopWriter;

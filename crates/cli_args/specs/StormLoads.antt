@@ -2,7 +2,7 @@
 use Rattle.std.specs.Prelude.{◌≡◌, ℕ, ◌^◌, List, Some, map, codes}
 use Rattle.clap.specs.Words.{Row, Text, all_of}
 use Rattle.cli_args.specs.TaskWords.{GivesNumber}
-use Rattle.cli_args.specs.declared.storm.StormLoad.{StormLoad}
+use Rattle.cli_args.specs.declared.storm_words.StormLoad.{StormLoad}
 
 -- roaming workers, their turns, and script files
 pub record Load : Type 0 where

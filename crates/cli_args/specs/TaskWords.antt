@@ -7,10 +7,10 @@ use Rattle.clap.specs.Lexer.{usize_max}
 use Rattle.clap.specs.Words.{App, Row, Rule, Text, all_of, first_of, kind_of, new_app, new_rule, one_of, subcommand_of, takes, with_rule, with_subcommand}
 use Rattle.clap.specs.declared.builder.value_parser.ValueParser.TheVariants as vp
 use Rattle.clap.specs.declared.error.kind.ErrorKind.TheVariants.{DisplayHelp, DisplayVersion}
-use Rattle.rule_machine.specs.declared.rules.RuleSet.{RuleSet}
+use Rattle.rule_machine.specs.declared.rule_set.RuleSet.{RuleSet}
 use Rattle.rule_machine.specs.Tables.{rules_word}
-use Rattle.cli_args.specs.declared.storm.ResumeStormWords.{ResumeStormWords}
-use Rattle.cli_args.specs.declared.storm.StormWords.{StormWords}
+use Rattle.cli_args.specs.declared.storm_words.ResumeStormWords.{ResumeStormWords}
+use Rattle.cli_args.specs.declared.storm_words.StormWords.{StormWords}
 use Rattle.cli_args.specs.declared.task.Task.{Task}
 use Rattle.cli_args.specs.declared.task.Task.TheVariants as variants
 use Rattle.cli_args.specs.declared.task.Task.TheVariants.{Run, Resume, Audit, Picture, Epochs, ResumeStorm, Show}

@@ -17,10 +17,10 @@
 
 mod command;
 mod help;
-mod storm;
+mod request;
+mod storm_words;
 mod task;
-mod words;
 
-pub use storm::{ResumeStormWords, StormWords};
+pub use request::{Request, read_words, usual_words};
+pub use storm_words::{ResumeStormWords, StormWords};
 pub use task::{Task, present_at_start};
-pub use words::{Request, read_words, usual_words};

@@ -3,11 +3,11 @@
 ghost use Rattle.std.specs.Prelude.{◌≡◌, ◌≤◌, ◌^◌, ℕ, Option, Some, is_some, IfErr, IfOk, IfSome, MatchOption, codes};
 ghost use Rattle.clap.specs.Words.{first_of, found_of, kind_of, rows_of, subcommand_rows_of};
 ghost use Rattle.clap.specs.declared.error.kind.ErrorKind.TheVariants.{OutOfMemory};
-ghost use Rattle.rule_machine.specs.declared.rules.RuleSet.{RuleSet};
+ghost use Rattle.rule_machine.specs.declared.rule_set.RuleSet.{RuleSet};
 ghost use Rattle.rule_machine.specs.Tables.{rules_word};
 ghost use Rattle.cli_args.specs.TaskWords.{GivesNumber, HoldsPicture, HasInput, HoldsNoRun, HoldsRun, IsInput, IsLeftOut, MatchesTask, HoldsNothing, present_at_start};
 
-use crate::storm::{ResumeStormWords, StormWords, storm_task};
+use crate::storm_words::{ResumeStormWords, StormWords, storm_task};
 use clap::{ArgMatches, Error};
 use rule_machine::RuleSet;
 use std::alloc::Global;

@@ -1,6 +1,6 @@
 -- The texts of runs are accepted.
 use Rattle.std.proofs.Common.{◌≡◌, ℕ, ◌+◌, ◌≤◌, List, [], ◌++◌, length, refl, sym, ap, ◌∙◌, append-nil, arith}
-use Rattle.rule_machine.specs.declared.rules.RuleSet.{RuleSet}
+use Rattle.rule_machine.specs.declared.rule_set.RuleSet.{RuleSet}
 use Rattle.rule_machine.specs.Base.{LogPart, NumberedMoment, base_of, entries_in}
 use Rattle.rule_machine.specs.Run.{Entry, beginning_with}
 use Rattle.rule_machine.specs.Tables.{table_of}
@@ -10,7 +10,7 @@ use Rattle.line_text.specs.EntryText.{header_line}
 use Rattle.entry_grammar.specs.Spelling.{max_entries}
 use Rattle.script_text.specs.Script.{Progress}
 use Rattle.run_session.specs.RunStart.{first_progress}
-use Rattle.auditor.specs.declared.end.TranscriptEnd.{TranscriptEnd}
+use Rattle.auditor.specs.declared.transcript_end.TranscriptEnd.{TranscriptEnd}
 use Rattle.auditor.specs.declared.summary.Summary.{Summary}
 use Rattle.auditor.specs.AcceptedRuns.{IsAccepted}
 use Rattle.auditor.specs.Parts.{Based, Named, Opening, size_of}

@@ -1,6 +1,6 @@
 -- What is written when a run ends is accepted.
 use Rattle.std.proofs.Common.{ℕ, ◌≤◌, inl, inr, List, ◌++◌, take, Result, Ok, Err}
-use Rattle.rule_machine.specs.declared.rules.RuleSet.{RuleSet}
+use Rattle.rule_machine.specs.declared.rule_set.RuleSet.{RuleSet}
 use Rattle.rule_machine.specs.RuleTable.{RuleTable}
 use Rattle.rule_machine.specs.Tables.{table_of}
 use Rattle.script_text.specs.Script.{Progress}
@@ -8,7 +8,7 @@ use Rattle.run_session.specs.RunStart.{first_progress}
 use Rattle.script_run.specs.declared.fault.RunFault.{RunFault}
 use Rattle.script_run.specs.declared.fault.RunFault.TheVariants.{BadLine, LogFull, Read, Write, Memory, Pool}
 use Rattle.script_run.specs.Outcome as outcome
-use Rattle.auditor.specs.declared.end.TranscriptEnd.{TranscriptEnd}
+use Rattle.auditor.specs.declared.transcript_end.TranscriptEnd.{TranscriptEnd}
 use Rattle.auditor.specs.TranscriptEnds.{IsTranscriptEnd}
 use Rattle.audit_parts.specs.Laws.{IsAcceptedText}
 use Rattle.entry_grammar.specs.Spelling.{max_entries}

@@ -2,7 +2,7 @@
 use Rattle.std.proofs.Common.{◌≡◌, ◌∙◌, ◌≤◌, ◌+◌, ℕ, inl, inr, List, [], ◌∷◌, ◌++◌, Option, None, Some, Result, Ok, Err, refl, ap, subst, sym}
 use Rattle.std.specs.List.{AllByRecursion}
 use Rattle.rule_machine.specs.declared.base.Base.{Base}
-use Rattle.rule_machine.specs.declared.rules.RuleSet.{RuleSet}
+use Rattle.rule_machine.specs.declared.rule_set.RuleSet.{RuleSet}
 use Rattle.rule_machine.specs.Tables.{table_of, weight_of}
 use Rattle.rule_machine.specs.Base.{dropped}
 use Rattle.rule_machine.specs.Run.{Entry}

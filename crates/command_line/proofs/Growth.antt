@@ -4,8 +4,8 @@ use Rattle.std.proofs.lemmas.List.{length-map}
 use Rattle.std.specs.FinMap as finmap
 use Rattle.rule_machine.specs.declared.event.Event.{Event}
 use Rattle.rule_machine.specs.declared.reply.Reply.{Reply}
-use Rattle.rule_machine.specs.declared.rules.RuleSet.{RuleSet}
-use Rattle.rule_machine.specs.declared.rules.RuleSet.TheVariants.{Hh, Manne}
+use Rattle.rule_machine.specs.declared.rule_set.RuleSet.{RuleSet}
+use Rattle.rule_machine.specs.declared.rule_set.RuleSet.TheVariants.{Hh, Manne}
 use Rattle.rule_machine.specs.Base.{BasePart, EntryPart, LogPart, NumberedMoment, base_of}
 use Rattle.rule_machine.specs.Least.{reply_of, state_after}
 use Rattle.rule_machine.specs.Network.{edge_count, node_count}

@@ -4,14 +4,14 @@ use Rattle.std.proofs.lemmas.List.{length-map}
 use Rattle.std.specs.List.{AllByRecursion}
 use Rattle.std.specs.FinMap as finmap
 use Rattle.rule_machine.specs.declared.base.Base.{Base}
-use Rattle.rule_machine.specs.declared.rules.RuleSet.{RuleSet}
+use Rattle.rule_machine.specs.declared.rule_set.RuleSet.{RuleSet}
 use Rattle.rule_machine.specs.Answer.{spent_after}
 use Rattle.rule_machine.specs.Base.{BeginsAt, EntryPart, LogPart, NumberedMoment, Passes, dropped, entries_in}
 use Rattle.rule_machine.specs.Network.{edge_count, node_count}
 use Rattle.rule_machine.specs.RuleTable.{RuleTable}
 use Rattle.rule_machine.specs.Run.{Entry, Moment, Run}
 use Rattle.rule_machine.specs.Tables.{table_of, weight_of}
-use Rattle.charge_laws.specs.ChargeWords.{charge_bound}
+use Rattle.machine_laws.specs.ChargeWords.{charge_bound}
 use Rattle.line_text.specs.EntryText.{entry_line, entry_lines}
 use Rattle.entry_grammar.specs.BaseLines.{IsShaped}
 use Rattle.entry_grammar.specs.Spelling.{max_entries}

@@ -32,7 +32,7 @@ use Rattle.line_text.specs.Words.{lines_with_ends}
 use Rattle.rule_machine.specs.Base.{LogPart, NumberedMoment, base_of, entries_in}
 use Rattle.rule_machine.specs.Run.{Entry}
 use Rattle.rule_machine.specs.State.{State}
-use Rattle.rule_machine.specs.declared.rules.RuleSet.{RuleSet}
+use Rattle.rule_machine.specs.declared.rule_set.RuleSet.{RuleSet}
 use Rattle.transcript_view.specs.Views.{IsEpochTable, IsPicture, IsPictureOf}
 use Rattle.transcript_view.specs.declared.view.View.{View}
 use Rattle.transcript_view.specs.declared.view.View.TheVariants.{Text, Refused, TooFew, Forgotten}

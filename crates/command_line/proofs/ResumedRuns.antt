@@ -3,10 +3,10 @@ use Rattle.std.proofs.Common.{ℕ, ◌≤◌, arith, List, Option, None, Some, �
 use Rattle.std.specs.Prelude.{IfSome}
 use Rattle.std.specs.Io.KnownBytes.{Appends}
 use Rattle.std.proofs.KnownBytes.{Keeps-refl}
-use Rattle.rule_machine.specs.declared.rules.RuleSet.{RuleSet}
+use Rattle.rule_machine.specs.declared.rule_set.RuleSet.{RuleSet}
 use Rattle.rule_machine.specs.Tables.{table_of}
 use Rattle.script_text.specs.Script.{Progress, lines_of}
-use Rattle.auditor.specs.declared.end.TranscriptEnd.{TranscriptEnd}
+use Rattle.auditor.specs.declared.transcript_end.TranscriptEnd.{TranscriptEnd}
 use Rattle.auditor.specs.declared.fault.AuditFault.{AuditFault}
 use Rattle.auditor.specs.declared.fault.AuditFault.TheVariants.{BadHeader, NotALine, OutOfOrder, NotTheMachines, BadBase, Read, Memory}
 use Rattle.auditor.specs.TranscriptEnds.{IsEndResult, IsTranscriptEnd, MayGoOn}

@@ -1,7 +1,7 @@
 -- What good words say of a task that opens files by itself.
 use Rattle.std.proofs.Common.{◌⊎◌, ℕ, Bor, List, inl, inr}
-use Rattle.cli_args.specs.declared.storm.ResumeStormWords.{ResumeStormWords}
-use Rattle.cli_args.specs.declared.storm.StormWords.{StormWords}
+use Rattle.cli_args.specs.declared.storm_words.ResumeStormWords.{ResumeStormWords}
+use Rattle.cli_args.specs.declared.storm_words.StormWords.{StormWords}
 use Rattle.cli_args.specs.declared.task.Task.{Task}
 use Rattle.cli_args.specs.declared.task.Task.TheVariants as variants
 use Rattle.cli_args.specs.declared.task.Task.TheVariants.{Run, Resume, Audit, Picture, Epochs, ResumeStorm, Show}

@@ -7,7 +7,7 @@ use Rattle.clap.specs.declared.error.Error.{Error}
 use Rattle.cli_args.specs.declared.task.Task.{Task}
 use Rattle.cli_args.specs.declared.task.Task.TheVariants as variants
 use Rattle.cli_args.specs.declared.task.Task.TheVariants.{Resume, ResumeStorm}
-use Rattle.cli_args.specs.declared.words.Request.{Request}
+use Rattle.cli_args.specs.declared.request.Request.{Request}
 use Rattle.command_line.specs.FileNotes.{AddsNote, TellsUnread}
 use Rattle.command_line.specs.ProgramEnds.{DoesTask, TellsMistake}
 use Rattle.command_line.specs.Status.{words_status}

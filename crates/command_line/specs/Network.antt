@@ -1,6 +1,6 @@
 -- The options that the words for a network or a storm give a run.
 use Rattle.std.specs.Prelude.{ℕ, max, min}
-use Rattle.rule_machine.specs.declared.rules.RuleSet.{RuleSet}
+use Rattle.rule_machine.specs.declared.rule_set.RuleSet.{RuleSet}
 use Rattle.script_run.specs.RunOptions.{OptionsView, usual}
 use Rattle.cli_args.specs.TaskWords.{Storm}
 

@@ -2,7 +2,7 @@
 use Rattle.std.specs.Prelude.{◌≡◌, ℕ, Bool, false, List, Option}
 use Rattle.std.specs.Io.KnownBytes.{Appends}
 use Rattle.byte_streams.specs.PartialOutput.{AppendsBeginning}
-use Rattle.byte_streams.specs.declared.writes.FailStopWriter.{FailStopWriter}
+use Rattle.byte_streams.specs.declared.fail_stop_writer.FailStopWriter.{FailStopWriter}
 
 -- what a writer has received
 abbrev pub WrittenBytes : Type 0

@@ -1,7 +1,7 @@
 -- What a script's lines have written so far, as a transcript.
 use Rattle.std.specs.Prelude.{ℕ, ◌+◌, ◌⊎◌, List, [], ◌++◌, Option, None, Some, Result, Ok, Err}
 use Rattle.rule_machine.specs.declared.base.Base.{Base}
-use Rattle.rule_machine.specs.declared.rules.RuleSet.{RuleSet}
+use Rattle.rule_machine.specs.declared.rule_set.RuleSet.{RuleSet}
 use Rattle.rule_machine.specs.RuleTable.{RuleTable}
 use Rattle.rule_machine.specs.Base.{LogPart, NumberedMoment, dropped}
 use Rattle.line_text.specs.EntryText.{entry_lines}
@@ -9,7 +9,7 @@ use Rattle.step_log.specs.RetainedLogs.{RetainedLog}
 use Rattle.script_text.specs.Script.{Progress, LinesDo, MeetsFullLog, with_checkpoint}
 use Rattle.script_run.specs.declared.fault.RunFault.{RunFault}
 use Rattle.script_run.specs.declared.fault.RunFault.TheVariants.{BadLine, LogFull, Read, Write, Memory, Pool}
-use Rattle.auditor.specs.declared.end.TranscriptEnd.{TranscriptEnd}
+use Rattle.auditor.specs.declared.transcript_end.TranscriptEnd.{TranscriptEnd}
 use Rattle.auditor.specs.Parts.{Based, Named, Opening, opening_text}
 use Rattle.auditor.specs.Transcript.{IsTranscript}
 

@@ -4,10 +4,10 @@ ghost use Rattle.std.specs.Prelude.{◌≡◌, ◌≢◌, ◌⊎◌, ℕ, List, 
 ghost use Rattle.std.specs.Io.KnownBytes.{Appends};
 ghost use Rattle.clap.specs.declared.error.kind.ErrorKind.TheVariants.{OutOfMemory};
 ghost use Rattle.cli_args.specs.declared.task.Task.{Task};
-ghost use Rattle.cli_args.specs.declared.storm.ResumeStormWords.{ResumeStormWords};
-ghost use Rattle.cli_args.specs.declared.storm.StormWords.{StormWords};
+ghost use Rattle.cli_args.specs.declared.storm_words.ResumeStormWords.{ResumeStormWords};
+ghost use Rattle.cli_args.specs.declared.storm_words.StormWords.{StormWords};
 ghost use Rattle.std.specs.Borrow.{Bor};
-ghost use Rattle.cli_args.specs.declared.words.Request.{Request};
+ghost use Rattle.cli_args.specs.declared.request.Request.{Request};
 ghost use Rattle.cli_args.specs.TaskWords.{ParsesTo, ReadsFrom, Asks, ParsesAsTask};
 ghost use Rattle.clap.specs.declared.error.Error.{Error};
 ghost use Rattle.clap.specs.Words.{kind_of};

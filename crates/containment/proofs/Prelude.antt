@@ -5,9 +5,9 @@ pub use Rattle.std.proofs.lemmas.List.{append-nil}
 pub use Rattle.std.proofs.lemmas.List.Elements.{filter_agree}
 pub use Rattle.std.proofs.lemmas.Option.{same_Some, none-some}
 pub use Rattle.std.specs.List.{range_with_len}
-pub use Rattle.charge_laws.proofs.ListCounts.{IsIn}
-pub use Rattle.charge_laws.proofs.Members.{in_names}
-pub use Rattle.charge_laws.proofs.PresentMovers.{pointer_present}
+pub use Rattle.machine_laws.proofs.ListCounts.{IsIn}
+pub use Rattle.machine_laws.proofs.Members.{in_names}
+pub use Rattle.machine_laws.proofs.PresentMovers.{pointer_present}
 pub use Rattle.containment_laws.proofs.AtRest.{rest_from, absent_rests}
 pub use Rattle.containment_laws.proofs.Edits.{mutual_is}
 pub use Rattle.containment_laws.proofs.ReachSize.{reach_cases}

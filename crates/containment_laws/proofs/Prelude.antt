@@ -8,22 +8,22 @@ pub use Rattle.std.proofs.lemmas.List.Elements.{All-head, All-tail}
 pub use Rattle.std.proofs.lemmas.Option.{none-some, same_Some, cond_some}
 pub use Rattle.std.specs.List.{cons_option}
 pub use Rattle.std.specs.Ordering.{eq_by_cmp}
-pub use Rattle.charge_laws.proofs.Asks.{hsu_huang_asks, manne_asks}
-pub use Rattle.charge_laws.proofs.CostsOfRuns.{point_parts}
-pub use Rattle.charge_laws.proofs.ListCounts.{IsIn, IsWithoutRepeats, count_into, count_all, sum_le, sum_add, sum_agree, none_count, once}
-pub use Rattle.charge_laws.proofs.ManneStableCharge.{married_are_pairs}
-pub use Rattle.charge_laws.proofs.Members.{names_without_repeats, in_names, names_len}
-pub use Rattle.charge_laws.proofs.NodeMoves.{IsInside, step_done, Deed, idles, updates, marries, seduces, abandons, IsDone}
-pub use Rattle.charge_laws.proofs.PresentMovers.{pointer_present}
-pub use Rattle.charge_laws.proofs.PresentNodes.{flagged_present}
-pub use Rattle.charge_laws.proofs.Runs.{Effect, rests, steps, disturbs, effect, step_network}
-pub use Rattle.charge_laws.proofs.Stances.{null_from, null_is}
-pub use Rattle.charge_laws.proofs.Tables.{hsu_huang_table, manne_table}
-pub use Rattle.charge_laws.proofs.Writes.{is_mover_in}
-pub use Rattle.charge_laws.specs.ChargeWords.{IsUndisturbed, moves_of}
-pub use Rattle.charge_laws.specs.Costs.{end_of_path, path_entries}
-pub use Rattle.charge_laws.specs.Degrees.{degree, degree_at}
-pub use Rattle.charge_laws.specs.Epochs.{IsPath}
+pub use Rattle.machine_laws.proofs.Asks.{hsu_huang_asks, manne_asks}
+pub use Rattle.machine_laws.proofs.CostsOfRuns.{point_parts}
+pub use Rattle.machine_laws.proofs.ListCounts.{IsIn, IsWithoutRepeats, count_into, count_all, sum_le, sum_add, sum_agree, none_count, once}
+pub use Rattle.machine_laws.proofs.ManneStableCharge.{married_are_pairs}
+pub use Rattle.machine_laws.proofs.Members.{names_without_repeats, in_names, names_len}
+pub use Rattle.machine_laws.proofs.NodeMoves.{IsInside, step_done, Deed, idles, updates, marries, seduces, abandons, IsDone}
+pub use Rattle.machine_laws.proofs.PresentMovers.{pointer_present}
+pub use Rattle.machine_laws.proofs.PresentNodes.{flagged_present}
+pub use Rattle.machine_laws.proofs.ChargesOfRuns.{Effect, rests, steps, disturbs, effect, step_network}
+pub use Rattle.machine_laws.proofs.Stances.{null_from, null_is}
+pub use Rattle.machine_laws.proofs.Tables.{hsu_huang_table, manne_table}
+pub use Rattle.machine_laws.proofs.WritesOfSteps.{is_mover_in}
+pub use Rattle.machine_laws.specs.ChargeWords.{IsUndisturbed, moves_of}
+pub use Rattle.machine_laws.specs.Costs.{end_of_path, path_entries}
+pub use Rattle.machine_laws.specs.Degrees.{degree, degree_at}
+pub use Rattle.machine_laws.specs.Epochs.{IsPath}
 pub use Rattle.machine_laws.proofs.AcceptedEvents.{cond_none, true_from_not}
 pub use Rattle.machine_laws.proofs.Edges.{inserted_cases, removed_was, edge_ends, contains-without, pair_total, contains-insert, still_removed, still_without}
 pub use Rattle.machine_laws.proofs.EnabledNodes.{act_none}
@@ -58,7 +58,7 @@ pub use Rattle.rule_machine.specs.declared.refusal.Refusal.{Refusal}
 pub use Rattle.rule_machine.specs.declared.refusal.Refusal.TheVariants.{NoFlag}
 pub use Rattle.rule_machine.specs.declared.reply.Reply.{Reply}
 pub use Rattle.rule_machine.specs.declared.reply.Reply.TheVariants.{Accepted, Refused, Moves, Shown, EnabledAre, Pairs, Counts}
-pub use Rattle.rules_api.specs.Table.{AsksForWork}
+pub use Rattle.rule_machine.specs.Table.{AsksForWork}
 pub use Rattle.containment_laws.specs.Laws.{ReachIsExact, IsWithinTwo, ReachIsNear, ReachIsSmall}
 pub use Rattle.containment_laws.specs.Movers.{moves_at, has_moved, is_reached_by, is_ever_reached, KeepsRegisters}
 pub use Rattle.containment_laws.specs.Reach.{is_parted, is_hit, is_in_reach, parts_a_pair, partings_of, partings_in, lost_pairs, named_by}

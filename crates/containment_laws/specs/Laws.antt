@@ -11,9 +11,9 @@ use Rattle.rule_machine.specs.Step.{IsStep}
 use Rattle.rule_machine.specs.Stable.{IsStable, mutual_pairs}
 use Rattle.rule_machine.specs.Answer.{Answers}
 use Rattle.rule_machine.specs.Run.{Entry, Moment, Run}
-use Rattle.charge_laws.specs.ChargeWords.{IsUndisturbed}
-use Rattle.charge_laws.specs.Costs.{end_of_path, path_entries}
-use Rattle.charge_laws.specs.Epochs.{IsPath}
+use Rattle.machine_laws.specs.ChargeWords.{IsUndisturbed}
+use Rattle.machine_laws.specs.Costs.{end_of_path, path_entries}
+use Rattle.machine_laws.specs.Epochs.{IsPath}
 use Rattle.containment_laws.specs.Rest.{is_surrounded, is_at_rest}
 use Rattle.containment_laws.specs.Reach.{is_parted, is_in_reach, reach_size, lost_pairs, partings_in, named_by}
 use Rattle.containment_laws.specs.Movers.{moves_at, has_moved, is_ever_reached, KeepsRegisters}

@@ -9,7 +9,7 @@ use Rattle.rule_machine.specs.Network.{neighbours}
 use Rattle.rule_machine.specs.State.{State, pointer, points, married, is_mutual}
 use Rattle.rule_machine.specs.Stable.{mutual_pairs}
 use Rattle.rule_machine.specs.Run.{Entry}
-use Rattle.charge_laws.specs.Degrees.{degree, degree_at}
+use Rattle.machine_laws.specs.Degrees.{degree, degree_at}
 
 -- Whether the event parts v from its partner: the edge between the two is removed, the pointer of one of
 -- the two changes, or the partner leaves.

@@ -8,11 +8,11 @@ ghost use Rattle.rule_machine.specs.Network.{present};
 ghost use Rattle.rule_machine.specs.State.{State, IsState};
 ghost use Rattle.rule_machine.specs.RuleTable.{RuleTable};
 ghost use Rattle.rule_machine.specs.Stable.{IsStable};
-ghost use Rattle.rules_api.specs.Table.{IsTable, AsksForWork};
+ghost use Rattle.rule_machine.specs.Table.{IsTable, AsksForWork};
 ghost use Rattle.containment_laws.specs.Rest.{is_at_rest};
 ghost use Rattle.containment_laws.specs.Laws.{ContainsFaults, RestIsIdle, StepsLeaveRest, StepsKeepPairs, RunsLeaveRest, MoversWereRestless, RunsKeepPairs, DisturbancesReach, DisturbancesBreakOne, OneIsContained, MoversWereReached, OnePairIsLost, AllAreContained, MoversAreAccountedFor, PairsAreAccountedFor, PairsAreLeft, ReachIsNear, ReachIsSmall, ReachIsExact};
 
-use rules_api::Rules;
+use rule_machine::Rules;
 
 /// A network is stable exactly if each of its nodes is at rest.
 pub fn stable_is_rest()

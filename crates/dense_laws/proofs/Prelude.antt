@@ -10,23 +10,23 @@ pub use Rattle.std.proofs.lemmas.Option.{none-some, same_Some}
 pub use Rattle.std.specs.List.{range_with_len}
 pub use Rattle.std.specs.Option.{option_or}
 pub use Rattle.std.specs.Ordering.{eq_by_cmp}
-pub use Rattle.charge_laws.proofs.EdgesByNodes.{marked_once}
-pub use Rattle.charge_laws.proofs.HsuHuangFalls.{one_mover, solo_from}
-pub use Rattle.charge_laws.proofs.HsuHuangFalls.{IsSolo, SoloTurn, takes, courts, leaves, paired_stays}
-pub use Rattle.charge_laws.proofs.ListCounts.{sum_le, count_all, count_agree, IsIn, IsWithoutRepeats, sum_add, sum_agree, count_none}
-pub use Rattle.charge_laws.proofs.Members.{range_bounds, in_names, names_without_repeats}
-pub use Rattle.charge_laws.proofs.NodeMoves.{IsDone, step_done}
-pub use Rattle.charge_laws.proofs.PresentMovers.{pointer_present, hsu_huang_inside, holds_is}
-pub use Rattle.charge_laws.proofs.Runs.{Effect, rests, steps, disturbs, effect}
-pub use Rattle.charge_laws.proofs.SilentRuns.{IsBudget, driven_is_quiet}
-pub use Rattle.charge_laws.proofs.Stances.{married_is, stance, is_paired, null_is, null_from, paired_from, paired_is, StanceCase, stance_cases, free, waiting, paired, free_from, waiting_from, not_null}
-pub use Rattle.charge_laws.proofs.Tables.{hsu_huang_table}
-pub use Rattle.charge_laws.proofs.Pairs.{bit}
-pub use Rattle.charge_laws.proofs.Writes.{is_mover_in}
-pub use Rattle.charge_laws.specs.ChargeWords.{moves_in, IsUndisturbed, moves_of}
-pub use Rattle.charge_laws.specs.Costs.{end_of_path, path_entries}
-pub use Rattle.charge_laws.specs.Epochs.{IsPath}
-pub use Rattle.charge_laws.specs.SilentRuns.{IsDriven}
+pub use Rattle.machine_laws.proofs.EdgesByNodes.{marked_once}
+pub use Rattle.machine_laws.proofs.HsuHuangFalls.{one_mover, solo_from}
+pub use Rattle.machine_laws.proofs.HsuHuangFalls.{IsSolo, SoloTurn, takes, courts, leaves, paired_stays}
+pub use Rattle.machine_laws.proofs.ListCounts.{sum_le, count_all, count_agree, IsIn, IsWithoutRepeats, sum_add, sum_agree, count_none}
+pub use Rattle.machine_laws.proofs.Members.{range_bounds, in_names, names_without_repeats}
+pub use Rattle.machine_laws.proofs.NodeMoves.{IsDone, step_done}
+pub use Rattle.machine_laws.proofs.PresentMovers.{pointer_present, hsu_huang_inside, holds_is}
+pub use Rattle.machine_laws.proofs.ChargesOfRuns.{Effect, rests, steps, disturbs, effect}
+pub use Rattle.machine_laws.proofs.SilentRuns.{IsBudget, driven_is_quiet}
+pub use Rattle.machine_laws.proofs.Stances.{married_is, stance, is_paired, null_is, null_from, paired_from, paired_is, StanceCase, stance_cases, free, waiting, paired, free_from, waiting_from, not_null}
+pub use Rattle.machine_laws.proofs.Tables.{hsu_huang_table}
+pub use Rattle.machine_laws.proofs.PaidMoves.{bit}
+pub use Rattle.machine_laws.proofs.WritesOfSteps.{is_mover_in}
+pub use Rattle.machine_laws.specs.ChargeWords.{moves_in, IsUndisturbed, moves_of}
+pub use Rattle.machine_laws.specs.Costs.{end_of_path, path_entries}
+pub use Rattle.machine_laws.specs.Epochs.{IsPath}
+pub use Rattle.machine_laws.specs.SilentRuns.{IsDriven}
 pub use Rattle.machine_laws.proofs.Edges.{pair_total, contains-insert, still_inserted, edgeless_is_network, with_edge_is_network}
 pub use Rattle.machine_laws.proofs.Neighbours.{linked_back, present_range, linked_apart, linked_present, option_cases, near_found}
 pub use Rattle.machine_laws.proofs.Pointers.{pointer_linked, suitor_linked, no_suitor, suitor_some, points_from, suitor_from}

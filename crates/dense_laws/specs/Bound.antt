@@ -4,7 +4,7 @@ use Rattle.rule_machine.specs.Network.{node_count}
 use Rattle.rule_machine.specs.State.{IsState}
 use Rattle.rule_machine.specs.HsuHuang.{hsu_huang}
 use Rattle.rule_machine.specs.Run.{Entry, Moment, Run}
-use Rattle.charge_laws.specs.ChargeWords.{moves_in, IsUndisturbed}
+use Rattle.machine_laws.specs.ChargeWords.{moves_in, IsUndisturbed}
 
 -- n²/2 + n - 2, the half rounded down; 0 for one node or none
 abbrev pub dense_bound : ℕ → ℕ

@@ -9,10 +9,10 @@ ghost use Rattle.rule_machine.specs.RuleTable.{enabled_names};
 ghost use Rattle.rule_machine.specs.HsuHuang.{hsu_huang};
 ghost use Rattle.rule_machine.specs.Step.{IsStep};
 ghost use Rattle.rule_machine.specs.Run.{Entry, Moment, Run};
-ghost use Rattle.charge_laws.specs.ChargeWords.{moves_in, IsUndisturbed};
-ghost use Rattle.charge_laws.specs.Costs.{end_of_path, path_entries};
-ghost use Rattle.charge_laws.specs.Epochs.{IsPath};
-ghost use Rattle.charge_laws.specs.SilentRuns.{IsDriven};
+ghost use Rattle.machine_laws.specs.ChargeWords.{moves_in, IsUndisturbed};
+ghost use Rattle.machine_laws.specs.Costs.{end_of_path, path_entries};
+ghost use Rattle.machine_laws.specs.Epochs.{IsPath};
+ghost use Rattle.machine_laws.specs.SilentRuns.{IsDriven};
 ghost use Rattle.dense_laws.specs.Bound.{dense_bound, HasLongRun};
 ghost use Rattle.dense_laws.specs.Potential.{dense_charge};
 

@@ -16,7 +16,7 @@
 mod marks;
 mod scan;
 mod set;
-mod word;
+mod spot;
 
 pub use marks::Marks;
 pub use set::EnabledSet;

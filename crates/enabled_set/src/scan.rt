@@ -4,7 +4,7 @@ ghost use Rattle.std.specs.Prelude.{◌≡◌, ℕ, ◌+◌, ◌*◌, ◌<◌, �
 ghost use Rattle.enabled_set.specs.Members.{has_bit, is_bit_on, HasOnlyNames};
 ghost use Rattle.enabled_set.specs.Counts.{tally, before, below};
 
-use crate::word::{Spot, bit_is_set, first_bit, spot_behind, without_bit};
+use crate::spot::{Spot, bit_is_set, first_bit, spot_behind, without_bit};
 use rule_machine::{Node, Want};
 
 #[inline(always)]

@@ -4,7 +4,7 @@ ghost use Rattle.std.specs.Prelude.{◌≡◌, ◌+◌, ◌*◌, ◌<◌, ◌≤
 ghost use Rattle.enabled_set.specs.Members.{is_in, members};
 
 use crate::scan::{look, pass_in_8, pass_in_16, pass_words, push_word};
-use crate::word::{bit_is_set, find_bit, with_bit, without_bit};
+use crate::spot::{bit_is_set, find_bit, with_bit, without_bit};
 use rule_machine::{Node, Want};
 use std::alloc::Global;
 use std::marker::Model;

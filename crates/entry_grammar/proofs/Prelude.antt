@@ -40,8 +40,8 @@ pub use Rattle.rule_machine.specs.declared.refusal.Refusal.{Refusal}
 pub use Rattle.rule_machine.specs.declared.refusal.Refusal.TheVariants.{UnknownNode, SelfLoop, AlreadyLinked, NotLinked, TooManyEdges, NotNeighbour, NoFlag, EmptyChoice, NotCentral, ChosenTwice, NotEnabled, BadTarget, AlreadyPresent}
 pub use Rattle.rule_machine.specs.declared.reply.Reply.{Reply}
 pub use Rattle.rule_machine.specs.declared.reply.Reply.TheVariants.{Accepted, Refused, Moves, Shown, EnabledAre, Pairs}
-pub use Rattle.rule_machine.specs.declared.rules.RuleSet.{RuleSet}
-pub use Rattle.rule_machine.specs.declared.rules.RuleSet.TheVariants.{Hh, Manne}
+pub use Rattle.rule_machine.specs.declared.rule_set.RuleSet.{RuleSet}
+pub use Rattle.rule_machine.specs.declared.rule_set.RuleSet.TheVariants.{Hh, Manne}
 pub use Rattle.entry_grammar.specs.BaseLines.{IsEdgeAbove, NodesRise, EdgesRise, IsPlace, node_key, place_line, EdgesFollow, NodesFollow, MayFollow, BreaksAt, AscendByKey, IsNodeAbove, IsShaped, base_lines, lines_of_base, LacksLines}
 pub use Rattle.entry_grammar.specs.BaseParts.{numbers_text, last_key, NodesRead, NodesBreak, EdgesBreak, LinesBreak, LinesRead}
 pub use Rattle.entry_grammar.specs.Parsing.{AreCounts, Starts, IsFree, CutAt, rules_text, registers_text, FieldThen, PartsOf, reply_suits, first_byte, EndsWord, TokenThen, PairThen, DeedThen, deed_text, is_done, answers_step, is_shown, are_enabled, are_pairs, are_counts}

@@ -1,7 +1,7 @@
 //! The first line of a transcript.
 
 ghost use Rattle.std.specs.Prelude.{◌≡◌, ℕ, ◌≤◌, ⊤, IfOk, IfErr, MatchOption};
-ghost use Rattle.rule_machine.specs.declared.rules.RuleSet.{RuleSet};
+ghost use Rattle.rule_machine.specs.declared.rule_set.RuleSet.{RuleSet};
 ghost use Rattle.rule_machine.specs.Tables.{rules_word};
 ghost use Rattle.line_text.specs.Words.{number_text};
 ghost use Rattle.line_text.specs.EntryText.{header_text, sizes_text};

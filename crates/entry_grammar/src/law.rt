@@ -4,7 +4,7 @@ ghost use Rattle.std.specs.Prelude.{◌≡◌, ◌≤◌, ◌++◌, ℕ, List, l
 ghost use Rattle.rule_machine.specs.declared.base.Base.{Base};
 ghost use Rattle.rule_machine.specs.declared.event.Event.{Event};
 ghost use Rattle.rule_machine.specs.declared.reply.Reply.{Reply};
-ghost use Rattle.rule_machine.specs.declared.rules.RuleSet.{RuleSet};
+ghost use Rattle.rule_machine.specs.declared.rule_set.RuleSet.{RuleSet};
 ghost use Rattle.entry_grammar.specs.declared.base_line.BaseLine.{BaseLine};
 ghost use Rattle.entry_grammar.specs.BaseLines.{IsShaped, BreaksAt, base_lines};
 ghost use Rattle.entry_grammar.specs.Spelling.{SpellsBaseLine, SpellsEntry, SpellsHeader};

@@ -23,8 +23,8 @@ mod fault;
 mod header;
 mod law;
 mod reply;
+mod token;
 mod tokens;
-mod words;
 
 pub use base_line::{BaseLine, read_base_line};
 pub use base_reader::read_base;

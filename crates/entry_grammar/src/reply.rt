@@ -9,7 +9,7 @@ ghost use Rattle.entry_grammar.specs.Parsing.{ReadsReply, is_done, answers_step,
 
 use crate::counts::{read_counts, read_up_to};
 use crate::cut::cut;
-use crate::words::{read_list, read_words};
+use crate::token::{read_list, read_words};
 use line_text::{after, read_target};
 use rule_machine::{Event, Refusal, Reply, Want};
 use std::alloc::Global;

@@ -10,7 +10,7 @@ ghost use Rattle.entry_grammar.specs.Spelling.{IsMoved, IsEnabled, IsOrderedPair
 ghost use Rattle.entry_grammar.specs.Parsing.{DeedThen, PairThen, first_byte};
 
 use crate::cut::{behind, ends};
-use crate::words::Token;
+use crate::token::Token;
 use line_text::{after, read_name};
 use rule_machine::{Act, Edge, Moved, Node};
 

@@ -8,8 +8,7 @@ ghost use Rattle.fault_injector.specs.DrawnFaults.{fault_drawn, behind, fault_wo
 use crate::picks::{pick_node, pick_target, pick_value};
 use rand_core::Rng;
 use rule_engine::Net;
-use rule_machine::Event;
-use rules_api::Rules;
+use rule_machine::{Event, Rules};
 use std::marker::Model;
 
 /// Draws faults of registers from the words of a generator; the same words give the same faults.

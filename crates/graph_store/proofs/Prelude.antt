@@ -28,10 +28,10 @@ pub use Rattle.std.specs.Vec.{vec_len, vec_capacity, with_items}
 pub use Rattle.std.specs.declared.alloc.Global.{Global}
 pub use Rattle.std.specs.declared.cmp.Ordering.TheVariants.{Less, Equal}
 pub use Rattle.std.specs.declared.vec.Vec.{Vec}
-pub use Rattle.charge_laws.proofs.EdgeChanges.{count_with, count_without, count_empty, count_all_few}
-pub use Rattle.charge_laws.proofs.EdgesByEnds.{one_node_changes}
-pub use Rattle.charge_laws.proofs.EdgesByNodes.{zeros, count_filter}
-pub use Rattle.charge_laws.proofs.ListCounts.{count_agree}
+pub use Rattle.machine_laws.proofs.EdgeChanges.{count_with, count_without, count_empty, count_all_few}
+pub use Rattle.machine_laws.proofs.EdgesByEnds.{one_node_changes}
+pub use Rattle.machine_laws.proofs.EdgesByNodes.{zeros, count_filter}
+pub use Rattle.machine_laws.proofs.ListCounts.{count_agree}
 pub use Rattle.enabled_set.specs.Members.{is_in, members}
 pub use Rattle.machine_laws.proofs.Edges.{contains-without, pair_total, pair_exact, contains-insert, contains-remove, contains-empty}
 pub use Rattle.machine_laws.proofs.Leaves.{unit_some}
@@ -42,6 +42,6 @@ pub use Rattle.graph_store.specs.EdgeStances.{are_open, end_at, open_among, Coun
 pub use Rattle.graph_store.specs.Fault.{ends_fault, link_fault, unlink_fault, leave_fault}
 pub use Rattle.graph_store.specs.Graph.{Graph, HasRoomFor}
 pub use Rattle.graph_store.specs.Rows.{has, IsPlaceOf, IsGapFor, contents, row_at, HasRoom, network_of, IsRows, IsPartFor, edges_of, IsStore, pairs_from, put_both, take_both}
-pub use Rattle.graph_store.specs.declared.ends.EdgeStance.{EdgeStance}
-pub use Rattle.graph_store.specs.declared.ends.EdgeStance.TheVariants.{Shut}
+pub use Rattle.graph_store.specs.declared.edge_stance.EdgeStance.{EdgeStance}
+pub use Rattle.graph_store.specs.declared.edge_stance.EdgeStance.TheVariants.{Shut}
 pub use Rattle.graph_store.specs.declared.fault.GraphFault.TheVariants.{UnknownNode, SelfLoop, AlreadyLinked, NotLinked, TooManyEdges}

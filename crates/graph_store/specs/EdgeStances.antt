@@ -3,8 +3,8 @@ use Rattle.std.specs.Prelude.{◌≡◌, ℕ, ◌+◌, Bool, true, false, not, �
 use Rattle.std.specs.Coded.{Coded, code_by, coded×, coded_bool}
 use Rattle.std.specs.FinMap as map
 use Rattle.rule_machine.specs.Network.{Network, PairSet}
-use Rattle.graph_store.specs.declared.ends.EdgeStance.{EdgeStance}
-use Rattle.graph_store.specs.declared.ends.EdgeStance.TheVariants.{Shut, Courted, Free}
+use Rattle.graph_store.specs.declared.edge_stance.EdgeStance.{EdgeStance}
+use Rattle.graph_store.specs.declared.edge_stance.EdgeStance.TheVariants.{Shut, Courted, Free}
 use Rattle.graph_store.specs.Rows.{edges_of}
 
 abbrev pub is_shut : EdgeStance → Bool

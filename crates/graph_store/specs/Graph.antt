@@ -5,7 +5,7 @@ use Rattle.std.specs.Vec.{vec_len, vec_capacity}
 use Rattle.std.specs.declared.vec.Vec.{Vec}
 use Rattle.std.specs.declared.alloc.Global.{Global}
 use Rattle.rule_machine.specs.Network.{Network, network_code}
-use Rattle.graph_store.specs.declared.ends.EdgeStance.{EdgeStance}
+use Rattle.graph_store.specs.declared.edge_stance.EdgeStance.{EdgeStance}
 use Rattle.graph_store.specs.EdgeStances.{end_code}
 use Rattle.graph_store.specs.Rows.{contents, network_of}
 

@@ -9,7 +9,7 @@ ghost use Rattle.graph_store.specs.Graph.{HasRoomFor};
 ghost use Rattle.graph_store.specs.Rows.{has, IsGapFor, IsPlaceOf};
 ghost use Rattle.graph_store.specs.declared.fault.GraphFault.TheVariants.{Memory};
 
-use crate::ends::{are_open, shut_ends, turn_end};
+use crate::edge_stance::{are_open, shut_ends, turn_end};
 use crate::rows::{
     empty_rows, find_gap, find_place, guess_gap, list_pairs, put_both, reserve_both, take_both,
 };

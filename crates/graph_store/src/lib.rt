@@ -15,12 +15,12 @@
 //! ```
 #![tactic(auto)]
 
+mod edge_stance;
 mod edge_store;
-mod ends;
 mod fault;
 mod rows;
 
+pub use edge_stance::EdgeStance;
 pub use edge_store::{EdgeStore, first_names};
-pub use ends::EdgeStance;
 pub use fault::GraphFault;
 pub use rule_machine::{Edge, MAX_EDGES, Node};

@@ -1,4 +1,4 @@
-//! Why a command does not take the words behind it.
+//! Why a command does not take the words after it.
 
 use crate::argument::Argument;
 use crate::command_word::CommandWord;

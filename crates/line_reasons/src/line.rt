@@ -73,7 +73,7 @@ fn why_unknown(word: &[u8]) -> Reason<'_> {
     Reason::UnknownWord(word, meant_by(word))
 }
 
-// The first word, and the words behind it.
+// The first word, and the words after it.
 fn first_word(line: &[u8]) -> (&[u8], &[u8]) {
     match memchr(b' ', line) {
         Some(at) => (&line[..at], &line[at + 1..]),

@@ -18,7 +18,7 @@ pub use Rattle.rule_machine.specs.Base.{node_record_at}
 pub use Rattle.rule_machine.specs.Network.{Network, IsNetwork, present, linked, neighbours, names, edge, edgeless, with_edge}
 pub use Rattle.rule_machine.specs.RuleTable.{RuleTable, rule_at, least_target, is_open, first_open, last_open_above, acts}
 pub use Rattle.rule_machine.specs.State.{State, IsState, pointer, flag, pointer_of, flag_of, is_at, suits, points, first_suitor, has_suitor, married, holds_at}
-pub use Rattle.rules_api.specs.Target.{SameAt, IsNear, target_at, target_by, takes_target}
+pub use Rattle.rule_machine.specs.Target.{SameAt, IsNear, target_at, target_by, takes_target}
 pub use Rattle.graph_store.specs.Rows.{has}
 unfoldable pub use Rattle.graph_store.proofs.AscendingLists.{RisesFrom}
 pub use Rattle.graph_store.proofs.AscendingLists.{rises_from, part_of_names}

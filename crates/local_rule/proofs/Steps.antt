@@ -1,10 +1,10 @@
 -- A node's own move is a step of the machine.
 use Rattle.local_rule.proofs.Prelude.{◌≡◌, ℕ, Bool, true, false, cond, not, ◌&&◌, ◌||◌, nat_eq, Option, None, Some, is_some, IsTrue, refl, sym, ap, ◌∙◌, subst, ⊎_elim, arith, cases_Bool, true≢false, and_from, eq-eqb, none-some, same_Some, option_map, Act, Update, Marry, Seduce, Abandon, State, IsState, RuleTable, rule_at, least_target, acts, takes_target, find_passes}
 use Rattle.rule_machine.specs.Step.{IsStep, after_moves}
-use Rattle.rules_api.specs.Table.{IsTable}
+use Rattle.rule_machine.specs.Table.{IsTable}
 use Rattle.machine_laws.specs.MoveTests.{is_rule, is_target, same_act}
 use Rattle.machine_laws.proofs.StepTests.{step_from_tests}
-use Rattle.local_rule.specs.declared.moves.LocalMove.{LocalMove}
+use Rattle.local_rule.specs.declared.local_move.LocalMove.{LocalMove}
 use Rattle.local_rule.specs.Moves.{local_move, move_at, may_move_at}
 use Rattle.local_rule.specs.Steps.{only, only_move, IsStepOf}
 

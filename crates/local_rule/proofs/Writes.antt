@@ -7,7 +7,7 @@ use Rattle.rule_machine.specs.declared.act.Moved.{Moved}
 use Rattle.rule_machine.specs.declared.choice.Item.{Item}
 use Rattle.rule_machine.specs.State.{Registers, married}
 use Rattle.rule_machine.specs.Step.{IsStep, IsMoveOf, IsTarget, written, after_move}
-use Rattle.rules_api.specs.Table.{AsksForWork}
+use Rattle.rule_machine.specs.Table.{AsksForWork}
 use Rattle.machine_laws.proofs.Pointers.{married_some, suitor_linked}
 use Rattle.machine_laws.proofs.StepTests.{is_move_of_decides}
 use Rattle.machine_laws.proofs.Writes.{pointer-with_pointer_same, flag-with_flag_same, pointer-with_pointer_other, flag-with_flag_other}

@@ -7,7 +7,7 @@ use Rattle.rule_machine.specs.State.{State, suits, is_at}
 use Rattle.rule_machine.specs.RuleTable.{is_open}
 use Rattle.rule_machine.specs.HsuHuang.{hsu_huang, hsu_huang_opens}
 use Rattle.rule_machine.specs.Manne.{manne, manne_opens, may_court}
-use Rattle.rules_api.specs.Target.{SameAt}
+use Rattle.rule_machine.specs.Target.{SameAt}
 use Rattle.machine_laws.proofs.LocalAgreement.{same_find}
 use Rattle.local_rule.specs.Moves.{TargetsAreLocal}
 

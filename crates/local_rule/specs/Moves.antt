@@ -7,10 +7,10 @@ use Rattle.rule_machine.specs.declared.base.NodeRecord.{NodeRecord}
 use Rattle.rule_machine.specs.State.{State, IsState, pointer_of, flag_of}
 use Rattle.rule_machine.specs.RuleTable.{RuleTable, rule_at, least_target}
 use Rattle.rule_machine.specs.Step.{written}
-use Rattle.rules_api.specs.Target.{SameAt}
+use Rattle.rule_machine.specs.Target.{SameAt}
 use Rattle.machine_laws.specs.MoveTests.{is_move_of}
 use Rattle.local_rule.specs.Looks.{answered_among}
-use Rattle.local_rule.specs.declared.moves.LocalMove.{LocalMove}
+use Rattle.local_rule.specs.declared.local_move.LocalMove.{LocalMove}
 
 -- a move of v by the rule to the target, with v's registers after it
 abbrev pub local_move : State → ℕ → Act → Option ℕ → LocalMove

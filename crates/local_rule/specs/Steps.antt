@@ -8,7 +8,7 @@ use Rattle.rule_machine.specs.Network.{neighbours}
 use Rattle.rule_machine.specs.State.{State, pointer, flag}
 use Rattle.rule_machine.specs.RuleTable.{RuleTable}
 use Rattle.rule_machine.specs.Step.{IsStep, after_moves}
-use Rattle.local_rule.specs.declared.moves.LocalMove.{LocalMove}
+use Rattle.local_rule.specs.declared.local_move.LocalMove.{LocalMove}
 use Rattle.local_rule.specs.Faults.{own_fault}
 use Rattle.local_rule.specs.Moves.{local_move, may_move_at}
 

@@ -9,8 +9,8 @@ ghost use Rattle.rule_machine.specs.Network.{linked};
 ghost use Rattle.rule_machine.specs.RuleTable.{RuleTable};
 ghost use Rattle.rule_machine.specs.State.{State, IsState};
 ghost use Rattle.rule_machine.specs.Step.{IsStep};
-ghost use Rattle.rules_api.specs.Table.{IsTable, AsksForWork};
-ghost use Rattle.local_rule.specs.declared.moves.LocalMove.{LocalMove};
+ghost use Rattle.rule_machine.specs.Table.{IsTable, AsksForWork};
+ghost use Rattle.local_rule.specs.declared.local_move.LocalMove.{LocalMove};
 ghost use Rattle.local_rule.specs.Moves.{move_at};
 ghost use Rattle.local_rule.specs.Steps.{IsStepOf, IsLocalIn, repaired, records_around};
 

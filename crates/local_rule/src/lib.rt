@@ -10,19 +10,19 @@
 //! ```
 #![tactic(auto)]
 
+mod as_record;
 mod fault;
 mod laws;
-mod moves;
-mod records;
+mod local_move;
+mod local_rules;
 mod repair;
 mod rule;
-mod rules;
 mod seen;
 
+pub use as_record::AsRecord;
 pub use fault::{ViewFault, fault_of};
 pub use laws::{local_moves_are_steps, steps_are_local_moves, unlinking_repairs};
-pub use moves::LocalMove;
-pub use records::AsRecord;
+pub use local_move::LocalMove;
+pub use local_rules::LocalRules;
 pub use repair::repaired;
 pub use rule::{local_rule, local_rule_of, may_move, may_move_of};
-pub use rules::LocalRules;

@@ -4,7 +4,7 @@ ghost use Rattle.std.specs.Prelude.{◌≡◌, IfOk, IfErr, OnErr, OnOk, Some, I
 ghost use Rattle.rule_machine.specs.State.{State};
 ghost use Rattle.std.specs.Result.{result_ok};
 ghost use Rattle.rule_machine.specs.RuleTable.{rule_at, least_target};
-ghost use Rattle.rules_api.specs.Target.{target_at};
+ghost use Rattle.rule_machine.specs.Target.{target_at};
 ghost use Rattle.rule_machine.specs.Step as step;
 ghost use Rattle.rule_machine.specs.Tables.{table_of};
 ghost use Rattle.local_rule.specs.Faults.{first_fault};
@@ -13,11 +13,10 @@ ghost use Rattle.local_rule.specs.Star.{star};
 ghost use Rattle.local_rule.specs.Views.{ShowsAtNode, IsShown, IsNeverShown};
 
 use crate::fault::{ViewFault, fault_of};
-use crate::rules::LocalRules;
+use crate::local_rules::LocalRules;
 use crate::seen::{Seen, is_answered};
 use crate::{AsRecord, LocalMove};
-use rule_machine::{Act, Node, NodeRecord, RuleSet};
-use rules_api::BadTarget;
+use rule_machine::{Act, BadTarget, Node, NodeRecord, RuleSet};
 use rules_hsu_huang::HsuHuang;
 use rules_manne::Manne;
 

@@ -9,8 +9,7 @@ ghost use Rattle.rule_machine.specs.State.{is_at};
 
 use crate::AsRecord;
 use crate::fault::record_of;
-use rule_machine::{Node, NodeRecord};
-use rules_api::{Local, Rules};
+use rule_machine::{Local, Node, NodeRecord, Rules};
 use std::marker::PhantomData;
 
 /// What is seen at a node, which some state shows.

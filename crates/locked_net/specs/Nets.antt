@@ -9,7 +9,7 @@ use Rattle.keyed_lock.specs.Locks.{key_of}
 use Rattle.locked_net.specs.Settings.{Setting, IsLogIn}
 use Rattle.locked_net.specs.PublishedJournals.{name_from}
 use Rattle.locked_net.specs.Receipts.{base_number}
-use Rattle.locked_net.specs.declared.key.NetKey.{NetKey}
+use Rattle.locked_net.specs.declared.net_key.NetKey.{NetKey}
 use Rattle.locked_net.specs.declared.net.LockedNet.{LockedNet}
 
 module _ {R : Type 0} where

@@ -8,7 +8,7 @@ use Rattle.snapshots.specs.Views.{BoardName, BoardView}
 use Rattle.step_log.specs.RetainedLogs.{RetainedLog, last_number, moment_in}
 use Rattle.locked_net.specs.WholeLogs.{IsWholeLog}
 use Rattle.locked_net.specs.RetainedParts.{IsLogAboveBase, log_over}
-use Rattle.locked_net.specs.declared.key.NetKey.{NetKey}
+use Rattle.locked_net.specs.declared.net_key.NetKey.{NetKey}
 
 -- the whole log, dropped entries included, from the network's beginning; the base of what is kept, if any; and
 -- the name of the board that publishes the log

@@ -5,7 +5,7 @@ ghost use Rattle.std.specs.Thread.{IsSync, IsSend};
 ghost use Rattle.locked_net.specs.Nets.{book_of, setting_of};
 ghost use Rattle.locked_net.specs.RoamResults.{AllEnd, AllKeepNotes};
 
-use crate::round::{RoamConfig, take_turns};
+use crate::roam_config::{RoamConfig, take_turns};
 use crate::{CallFault, Clerk};
 use rule_engine::Rules;
 use std::sync::Wait;

@@ -5,8 +5,8 @@ ghost use Rattle.locked_net.specs.Nets.{name_of, setting_of};
 ghost use Rattle.locked_net.specs.Settings.{IsLogIn};
 
 use crate::LockedNet;
-use crate::desk::PublishedJournal;
-use crate::key::NetKey;
+use crate::net_key::NetKey;
+use crate::published_journal::PublishedJournal;
 use keyed_lock::Hold;
 use rule_engine::Rules;
 use std::marker::Model;
@@ -18,7 +18,7 @@ mod chosen;
 mod judged;
 mod lone;
 mod looks;
-mod reach;
+mod seen_reach;
 
 /// A network whose lock the caller has until `free`. Cannot be dropped: `free` ends it.
 /// Contracts see the whole published log from its beginning, dropped entries included; the base of the kept

@@ -13,8 +13,8 @@ ghost use Rattle.locked_net.specs.Receipts.{base_number};
 ghost use Rattle.step_log.specs.Log.{max_entries};
 ghost use Rattle.graph_store.specs.Fault.{nodes_fault, ExplainsGraphFault};
 
-use crate::desk::PublishedJournal;
-use crate::key::{KeyInvariant, NetKey};
+use crate::net_key::{KeyInvariant, NetKey};
+use crate::published_journal::PublishedJournal;
 use crate::sharing::{copy_of, share, share_from};
 use crate::{BoardReader, Clerk, ReaderFault};
 use keyed_lock::{Hold, KeyedLock};

@@ -6,7 +6,7 @@ ghost use Rattle.locked_net.specs.RoamResults.{RoamResult, AllTakeTurns, AllKeep
 ghost use Rattle.locked_net.specs.declared.roam_fault.RoamFault.TheVariants.{ZeroWorkers};
 
 use crate::forks::roam_all;
-use crate::round::RoamConfig;
+use crate::roam_config::RoamConfig;
 use crate::{Clerk, LockedNet, RoamFault};
 use rule_engine::Rules;
 use std::sync::Wait;

@@ -8,9 +8,9 @@ ghost use Rattle.locked_net.specs.Nets.{beginning_of, first_nodes_of, log_limit_
 ghost use Rattle.locked_net.specs.WholeLogs.{IsWholeLog};
 
 use crate::LockedNet;
-use crate::desk::PublishedJournal;
-use crate::key::NetKey;
 use crate::net::lock;
+use crate::net_key::NetKey;
+use crate::published_journal::PublishedJournal;
 use rule_engine::Rules;
 use rule_machine::Base;
 use std::alloc::{AllocError, Global};

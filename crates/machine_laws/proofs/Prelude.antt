@@ -41,7 +41,7 @@ pub use Rattle.rule_machine.specs.declared.refusal.Refusal.TheVariants.{UnknownN
 pub use Rattle.rule_machine.specs.declared.reply.Reply.{Reply}
 pub use Rattle.rule_machine.specs.declared.reply.Reply.TheVariants.{Accepted, Moves, Shown, EnabledAre, Pairs, Counts}
 pub use Rattle.rule_machine.specs.declared.verdict.Outcome.{Outcome}
-pub use Rattle.rules_api.specs.Target.{target_by, takes_target, SameAt}
+pub use Rattle.rule_machine.specs.Target.{target_by, takes_target, SameAt}
 pub use Rattle.machine_laws.specs.HalfMatchings.{AreApart, IsMatching}
 pub use Rattle.machine_laws.specs.MoveTests.{same_act, is_rule, suits_wish, is_target, is_move_of, is_asked, is_answered, are_of_items}
 pub use Rattle.machine_laws.specs.TwoPasses.{IsMoveIn, is_answered_at, flag_read_by, flag_read, pointer_by, pointer_written}

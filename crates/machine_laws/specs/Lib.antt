@@ -2,3 +2,10 @@ pub mod MoveTests
 pub mod StatesAfterReplies
 pub mod TwoPasses
 pub mod HalfMatchings
+pub mod ChargeWords
+pub mod Epochs
+pub mod ClosedByPointers
+pub mod Degrees
+pub mod Costs
+pub mod SilentRuns
+pub mod Laws

@@ -5,7 +5,7 @@ use Rattle.rule_machine.specs.Network.{Network, present}
 use Rattle.rule_machine.specs.State.{State, Registers, is_at, state_code}
 use Rattle.rule_machine.specs.Base.{node_record_at}
 use Rattle.rule_machine.specs.declared.base.NodeRecord.{NodeRecord}
-use Rattle.graph_store.specs.declared.ends.EdgeStance.{EdgeStance}
+use Rattle.graph_store.specs.declared.edge_stance.EdgeStance.{EdgeStance}
 use Rattle.graph_store.specs.EdgeStances.{end_code}
 
 -- a state, how many more neighbours each name has room for, and the stance of each name towards its edges

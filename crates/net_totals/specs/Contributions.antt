@@ -1,8 +1,8 @@
 -- What each node contributes to the totals of its network.
 use Rattle.std.specs.Prelude.{◌≡◌, ℕ, ◌+◌, ◌≤◌, Bool, false, cond, ◌&&◌, List, length, count_by, sum_by, Option, Some, None, is_some, option_and_then, slice_index_or, IsTrue, if◌then◌else◌}
 use Rattle.enabled_set.specs.Members.{is_in}
-use Rattle.graph_store.specs.declared.ends.EdgeStance.{EdgeStance}
-use Rattle.graph_store.specs.declared.ends.EdgeStance.TheVariants.{Shut, Courted, Free}
+use Rattle.graph_store.specs.declared.edge_stance.EdgeStance.{EdgeStance}
+use Rattle.graph_store.specs.declared.edge_stance.EdgeStance.TheVariants.{Shut, Courted, Free}
 use Rattle.graph_store.specs.EdgeStances.{end_at}
 use Rattle.rule_machine.specs.Network.{present, neighbours}
 use Rattle.rule_machine.specs.State.{State, Registers, IsState, is_at, points, is_unanswered, married}

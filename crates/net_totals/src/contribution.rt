@@ -3,13 +3,12 @@
 ghost use Rattle.std.specs.Prelude.{◌≡◌, ◌&&◌, ◌≤◌, false, not, cond, IsTrue, MatchOption};
 ghost use Rattle.rule_machine.specs.Network.{present};
 ghost use Rattle.rule_machine.specs.State.{State, IsState, holds_at, points};
-ghost use Rattle.rules_api.specs.ChargeInputs.{IsChargeInput};
+ghost use Rattle.rule_machine.specs.ChargeInputs.{IsChargeInput};
 ghost use Rattle.net_totals.specs.Contributions.{closing_at, stance_of, is_lower_end, node_part};
 
 use graph_store::EdgeStance;
 use registers::Registers;
-use rule_machine::Node;
-use rules_api::{ChargeInput, Rules};
+use rule_machine::{ChargeInput, Node, Rules};
 use suitor_index::IndexedNet;
 
 /// `added` is what the node adds to the charge apart from its edges.

@@ -8,8 +8,7 @@ ghost use Rattle.net_state.specs.StateViews.{StateView};
 use crate::contribution::{Contribution, NO_CONTRIBUTION};
 use enabled_set::{EnabledSet, Marks};
 use net_state::{Change, NetState, Observer};
-use rule_machine::{Node, Want};
-use rules_api::Rules;
+use rule_machine::{Node, Rules, Want};
 use std::alloc::Global;
 use std::marker::PhantomData;
 

@@ -6,15 +6,14 @@ ghost use Rattle.enabled_set.specs.Members.{is_in};
 ghost use Rattle.graph_store.specs.EdgeStances.{end_at as stance_at};
 ghost use Rattle.rule_machine.specs.Network.{names, edge_list};
 ghost use Rattle.rule_machine.specs.Stable.{mutual_pairs};
-ghost use Rattle.rules_api.specs.ChargeInputs.{ends_open};
+ghost use Rattle.rule_machine.specs.ChargeInputs.{ends_open};
 ghost use Rattle.net_totals.specs.Contributions.{is_lower_end, node_part};
 
 use crate::Contributions;
 use crate::contribution::{contribution_of, end_at, is_lower_end};
 use graph_store::EdgeStance;
 use net_state::{NetState, Observer};
-use rule_machine::{Node, Want};
-use rules_api::Rules;
+use rule_machine::{Node, Rules, Want};
 use suitor_index::{IndexedNet, Suitors};
 
 /// The totals over all nodes and edges that a status needs.

@@ -11,8 +11,8 @@ pub use Rattle.std.specs.Cmp.{both_tied, unsigned_ties}
 pub use Rattle.std.specs.List.{cons_option, list_any, range_with_len}
 pub use Rattle.std.specs.Ordering.{eq_by_cmp, nat_cmp}
 pub use Rattle.std.specs.Prelude.{sum_by}
-pub use Rattle.charge_laws.proofs.EdgeChanges.{count_with, count_empty}
-pub use Rattle.charge_laws.proofs.ListCounts.{sum_add}
+pub use Rattle.machine_laws.proofs.EdgeChanges.{count_with, count_empty}
+pub use Rattle.machine_laws.proofs.ListCounts.{sum_add}
 pub use Rattle.machine_laws.proofs.Edges.{pair_total, pair_exact, contains-insert, contains-empty}
 pub use Rattle.rule_machine.specs.Charge.{manne_node_charge}
 pub use Rattle.rule_machine.specs.Network.{edge_list, names, Network, PairSet, pair_cmp, pair_set, edge, linked, edge_count, present, is_end}
@@ -23,8 +23,8 @@ pub use Rattle.rule_machine.specs.State.{State, is_unanswered, partner}
 pub use Rattle.rule_machine.specs.Step.{after_moves}
 pub use Rattle.rule_machine.specs.Tables.{table_of}
 pub use Rattle.rule_machine.specs.declared.refusal.Refusal.TheVariants.{UnknownNode, SelfLoop, AlreadyLinked, TooManyEdges}
-pub use Rattle.rule_machine.specs.declared.rules.RuleSet.{RuleSet}
-pub use Rattle.rule_machine.specs.declared.rules.RuleSet.TheVariants.{Hh, Manne}
+pub use Rattle.rule_machine.specs.declared.rule_set.RuleSet.{RuleSet}
+pub use Rattle.rule_machine.specs.declared.rule_set.RuleSet.TheVariants.{Hh, Manne}
 pub use Rattle.reference_model.specs.Charges.{node_charge, is_closed}
 pub use Rattle.reference_model.specs.Lists.{same_pair, IsEachOnce, IsPlain}
 pub use Rattle.reference_model.specs.Scans.{is_sought}

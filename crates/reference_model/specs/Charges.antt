@@ -1,7 +1,7 @@
 -- What edges and nodes add to the charge, by either rule set.
 use Rattle.std.specs.Prelude.{ℕ, ◌+◌, Bool, cond}
-use Rattle.rule_machine.specs.declared.rules.RuleSet.{RuleSet}
-use Rattle.rule_machine.specs.declared.rules.RuleSet.TheVariants.{Hh, Manne}
+use Rattle.rule_machine.specs.declared.rule_set.RuleSet.{RuleSet}
+use Rattle.rule_machine.specs.declared.rule_set.RuleSet.TheVariants.{Hh, Manne}
 use Rattle.rule_machine.specs.State.{State, is_unanswered}
 use Rattle.rule_machine.specs.Charge.{hsu_huang_closed, manne_closed, manne_node_charge}
 

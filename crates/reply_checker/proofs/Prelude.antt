@@ -12,20 +12,20 @@ pub use Rattle.std.specs.Cmp.{both_ways}
 pub use Rattle.std.specs.List.{range_with_len, cons_option, list_any, list_all}
 pub use Rattle.std.specs.Option.{option_map, option_or}
 pub use Rattle.std.specs.Ordering.{is_lt, nat_cmp}
-pub use Rattle.charge_laws.proofs.Bounds.{hsu_huang_bounded, manne_bounded}
-pub use Rattle.charge_laws.proofs.ClosedByPointers.{hsu_huang_split, manne_split}
-pub use Rattle.charge_laws.proofs.EdgesByEnds.{edges_agree}
-pub use Rattle.charge_laws.proofs.ListCounts.{sum_agree, sum_add, none_count}
-pub use Rattle.charge_laws.specs.ChargeWords.{charge_bound}
-pub use Rattle.charge_laws.specs.ClosedByPointers.{hsu_huang_apart, manne_apart}
-pub use Rattle.charge_laws.specs.Degrees.{degree}
+pub use Rattle.machine_laws.proofs.Bounds.{hsu_huang_bounded, manne_bounded}
+pub use Rattle.machine_laws.proofs.ClosedByPointers.{hsu_huang_split, manne_split}
+pub use Rattle.machine_laws.proofs.EdgesByEnds.{edges_agree}
+pub use Rattle.machine_laws.proofs.ListCounts.{sum_agree, sum_add, none_count}
+pub use Rattle.machine_laws.specs.ChargeWords.{charge_bound}
+pub use Rattle.machine_laws.specs.ClosedByPointers.{hsu_huang_apart, manne_apart}
+pub use Rattle.machine_laws.specs.Degrees.{degree}
 pub use Rattle.enabled_set.proofs.MarkChanges.{one_fewer}
 pub use Rattle.enabled_set.proofs.Members.{inside}
 pub use Rattle.enabled_set.proofs.Sums.{summed, one_byte, sum_fits, sum_put, everywhere}
 pub use Rattle.enabled_set.specs.Members.{is_in, members}
 pub use Rattle.graph_store.specs.EdgeStances.{end_at, are_open, open_edges}
-pub use Rattle.graph_store.specs.declared.ends.EdgeStance.{EdgeStance}
-pub use Rattle.graph_store.specs.declared.ends.EdgeStance.TheVariants.{Shut, Courted, Free}
+pub use Rattle.graph_store.specs.declared.edge_stance.EdgeStance.{EdgeStance}
+pub use Rattle.graph_store.specs.declared.edge_stance.EdgeStance.TheVariants.{Shut, Courted, Free}
 pub use Rattle.machine_laws.proofs.AcceptedEvents.{IsStepChoice, choice_from_none, taken_at}
 pub use Rattle.machine_laws.proofs.AscendingMoves.{ascending_by, is_before}
 pub use Rattle.machine_laws.proofs.Bases.{base_tells}
@@ -65,10 +65,10 @@ pub use Rattle.rule_machine.specs.declared.event.Event.TheVariants.{Link, Unlink
 pub use Rattle.rule_machine.specs.declared.refusal.Refusal.{Refusal}
 pub use Rattle.rule_machine.specs.declared.reply.Reply.{Reply}
 pub use Rattle.rule_machine.specs.declared.reply.Reply.TheVariants.{Moves, EnabledAre, Pairs}
-pub use Rattle.rule_machine.specs.declared.rules.RuleSet.{RuleSet}
-pub use Rattle.rule_machine.specs.declared.rules.RuleSet.TheVariants.{Hh, Manne}
+pub use Rattle.rule_machine.specs.declared.rule_set.RuleSet.{RuleSet}
+pub use Rattle.rule_machine.specs.declared.rule_set.RuleSet.TheVariants.{Hh, Manne}
 pub use Rattle.reply_checker.specs.AscendingLists.{AreRising, lower_end_pair, ruled_node}
 pub use Rattle.reply_checker.specs.Choices.{ruled_at, item_at, IsRuled, HasChosenItems, is_item_node, is_mover, HasOnlyItemsOf, refused_item, is_move_by}
 pub use Rattle.reply_checker.specs.Contributions.{AreExactIfFresh, asks, AreAsking, AddsMember, edge_stance_by, closes, flag_charge, adds, absent_contribution, AreFresh, AreStatusSums, IsContributionAt, FitsTwoBits, contribution_of_name, IsShare}
 pub use Rattle.reply_checker.specs.declared.choices.RuledItem.{RuledItem}
-pub use Rattle.reply_checker.specs.declared.share.Contribution.{Contribution}
+pub use Rattle.reply_checker.specs.declared.contribution.Contribution.{Contribution}

@@ -1,12 +1,12 @@
 -- The bases at which a judge begins, and which a judge returns.
 use Rattle.std.specs.Prelude.{ℕ, ◌≤◌, length}
 use Rattle.rule_machine.specs.declared.base.Base.{Base}
-use Rattle.rule_machine.specs.declared.rules.RuleSet.{RuleSet}
+use Rattle.rule_machine.specs.declared.rule_set.RuleSet.{RuleSet}
 use Rattle.rule_machine.specs.State.{State}
 use Rattle.rule_machine.specs.Base.{IsBaseMoment}
 use Rattle.rule_machine.specs.Run.{Moment}
 use Rattle.rule_machine.specs.Tables.{table_of, weight_of}
-use Rattle.charge_laws.specs.ChargeWords.{charge_bound}
+use Rattle.machine_laws.specs.ChargeWords.{charge_bound}
 pub use Rattle.net_state.specs.BaseLines.{NamesRise, EdgesAscend}
 
 -- a run may begin at a base in this state, and the base has at most as many edges as a network may have

@@ -2,19 +2,19 @@
 -- stored values are still right.
 use Rattle.std.specs.Prelude.{◌≡◌, ◌≢◌, ℕ, ◌+◌, ◌≤◌, Bool, false, true, cond, ◌&&◌, ◌||◌, List, length, sum_by, None, is_none, is_some, nat_eq, slice_index_or, IsTrue}
 use Rattle.enabled_set.specs.Members.{is_in}
-use Rattle.rule_machine.specs.declared.rules.RuleSet.{RuleSet}
-use Rattle.rule_machine.specs.declared.rules.RuleSet.TheVariants.{Hh, Manne}
+use Rattle.rule_machine.specs.declared.rule_set.RuleSet.{RuleSet}
+use Rattle.rule_machine.specs.declared.rule_set.RuleSet.TheVariants.{Hh, Manne}
 use Rattle.rule_machine.specs.Network.{linked, present}
 use Rattle.rule_machine.specs.State.{State, IsState, is_unanswered, married, pointer, points}
 use Rattle.rule_machine.specs.Charge.{is_courted, manne_node_charge}
 use Rattle.rule_machine.specs.RuleTable.{enabled_names, rule_at}
 use Rattle.rule_machine.specs.Stable.{mutual_pairs}
 use Rattle.rule_machine.specs.Tables.{table_of}
-use Rattle.charge_laws.specs.ClosedByPointers.{hsu_huang_closes, manne_closes}
-use Rattle.graph_store.specs.declared.ends.EdgeStance.{EdgeStance}
-use Rattle.graph_store.specs.declared.ends.EdgeStance.TheVariants.{Shut, Courted, Free}
+use Rattle.machine_laws.specs.ClosedByPointers.{hsu_huang_closes, manne_closes}
+use Rattle.graph_store.specs.declared.edge_stance.EdgeStance.{EdgeStance}
+use Rattle.graph_store.specs.declared.edge_stance.EdgeStance.TheVariants.{Shut, Courted, Free}
 use Rattle.graph_store.specs.EdgeStances.{end_at}
-use Rattle.reply_checker.specs.declared.share.Contribution.{Contribution}
+use Rattle.reply_checker.specs.declared.contribution.Contribution.{Contribution}
 use Rattle.reply_checker.specs.declared.totals.Totals.{Totals}
 use Rattle.reply_checker.specs.AscendingLists.{lower_end_pair}
 

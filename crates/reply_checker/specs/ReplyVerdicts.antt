@@ -5,14 +5,14 @@ use Rattle.rule_machine.specs.declared.event.Event.{Event}
 use Rattle.rule_machine.specs.declared.event.Event.TheVariants.{Link, Step}
 use Rattle.rule_machine.specs.declared.reply.Reply.{Reply}
 use Rattle.rule_machine.specs.declared.reply.Reply.TheVariants.{Accepted}
-use Rattle.rule_machine.specs.declared.rules.RuleSet.{RuleSet}
-use Rattle.rule_machine.specs.declared.rules.RuleSet.TheVariants.{Hh, Manne}
+use Rattle.rule_machine.specs.declared.rule_set.RuleSet.{RuleSet}
+use Rattle.rule_machine.specs.declared.rule_set.RuleSet.TheVariants.{Hh, Manne}
 use Rattle.rule_machine.specs.State.{State}
 use Rattle.rule_machine.specs.RuleTable.{RuleTable}
 use Rattle.rule_machine.specs.Refuse.{refusal_of}
 use Rattle.rule_machine.specs.Answer.{Answers, Does}
 use Rattle.machine_laws.specs.StatesAfterReplies.{followed}
-use Rattle.charge_laws.specs.Costs.{hsu_huang_cost, manne_cost}
+use Rattle.machine_laws.specs.Costs.{hsu_huang_cost, manne_cost}
 
 abbrev pub is_link : Event → Bool
 is_link (Link a b) = true

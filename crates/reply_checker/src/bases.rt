@@ -1,7 +1,7 @@
 //! Begins a judge at a base, and returns the base of a judge's state.
 
 ghost use Rattle.std.specs.Prelude.{◌≡◌, ◌≤◌, ◌+◌, ◌↔◌, ℕ, IfOk, IfSome, IsTrue, None, false, length, nat_le};
-ghost use Rattle.charge_laws.specs.ChargeWords.{charge_bound};
+ghost use Rattle.machine_laws.specs.ChargeWords.{charge_bound};
 ghost use Rattle.rule_machine.specs.Base.{base_of, node_records};
 ghost use Rattle.rule_machine.specs.State.{IsState, flag};
 ghost use Rattle.rule_machine.specs.Tables.{table_of, weight_of};

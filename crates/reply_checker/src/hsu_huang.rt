@@ -5,9 +5,9 @@ ghost use Rattle.rule_machine.specs.Network.{present};
 ghost use Rattle.rule_machine.specs.State as state;
 ghost use Rattle.rule_machine.specs.RuleTable as table;
 ghost use Rattle.rule_machine.specs.HsuHuang.{hsu_huang, hsu_huang_allowed, hsu_huang_opens};
-ghost use Rattle.charge_laws.specs.ClosedByPointers.{hsu_huang_closes};
-ghost use Rattle.charge_laws.specs.Costs as costs;
-ghost use Rattle.charge_laws.specs.Degrees as degrees;
+ghost use Rattle.machine_laws.specs.ClosedByPointers.{hsu_huang_closes};
+ghost use Rattle.machine_laws.specs.Costs as costs;
+ghost use Rattle.machine_laws.specs.Degrees as degrees;
 ghost use Rattle.reply_checker.specs.Contributions.{hsu_huang_end};
 
 use crate::reads::{degree, first_suitor, freed_edges, has_suitor, pointer, points_back};

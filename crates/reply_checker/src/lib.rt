@@ -16,24 +16,24 @@
 
 mod bases;
 mod choices;
+mod contribution;
+mod contributions;
+mod counted_net;
 mod edits;
 mod hsu_huang;
+mod judge;
 mod judging;
 mod looks;
 mod manne;
 mod questions;
 mod reads;
 mod refusals;
-mod replay;
 mod replies;
 mod rules;
-mod share;
-mod shares;
 mod steps;
-mod survey;
 mod targets;
 mod totals;
 
 use choices::ChosenItems;
-pub use replay::Judge;
-use survey::CountedNet;
+use counted_net::CountedNet;
+pub use judge::Judge;

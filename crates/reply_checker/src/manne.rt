@@ -7,8 +7,8 @@ ghost use Rattle.rule_machine.specs.Network.{neighbours, present};
 ghost use Rattle.rule_machine.specs.State as state;
 ghost use Rattle.rule_machine.specs.RuleTable as table;
 ghost use Rattle.rule_machine.specs.Manne.{manne, manne_allowed, may_court};
-ghost use Rattle.charge_laws.specs.ClosedByPointers.{manne_closes};
-ghost use Rattle.charge_laws.specs.Costs as costs;
+ghost use Rattle.machine_laws.specs.ClosedByPointers.{manne_closes};
+ghost use Rattle.machine_laws.specs.Costs as costs;
 ghost use Rattle.reply_checker.specs.Contributions.{manne_end};
 
 use crate::reads::{degree, first_suitor, flag, has_suitor, pointer, points_back};

@@ -3,7 +3,7 @@
 ghost use Rattle.std.specs.Prelude.{◌≡◌, ◌-◌, ◌≤◌, IsTrue, Some, cond};
 ghost use Rattle.rule_machine.specs.Network.{present};
 ghost use Rattle.rule_machine.specs.State as state;
-ghost use Rattle.charge_laws.specs.Degrees as degrees;
+ghost use Rattle.machine_laws.specs.Degrees as degrees;
 
 use net_state::NetState;
 use rule_machine::Node;

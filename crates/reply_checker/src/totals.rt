@@ -8,7 +8,7 @@ ghost use Rattle.rule_machine.specs.Tables.{table_of};
 ghost use Rattle.reply_checker.specs.Contributions.{asks, AreAsking, AreFresh, AreTotals};
 
 use crate::CountedNet;
-use crate::share::{end_at, share_of};
+use crate::contribution::{end_at, share_of};
 use enabled_set::Marks;
 use net_state::NetState;
 use rule_machine::{Act, Node, RuleSet};

@@ -7,9 +7,9 @@ pub use Rattle.std.proofs.lemmas.List.Folds.{list_any_more}
 pub use Rattle.std.proofs.lemmas.Option.{slice_get-get_or, none-some, same_Some}
 pub use Rattle.std.specs.List.{list_any, range_with_len}
 pub use Rattle.std.specs.Prelude.{slice_get}
-pub use Rattle.charge_laws.proofs.ListCounts.{IsIn}
-pub use Rattle.charge_laws.proofs.Members.{in_names, names_present}
-pub use Rattle.charge_laws.proofs.Writes.{is_mover_in}
+pub use Rattle.machine_laws.proofs.ListCounts.{IsIn}
+pub use Rattle.machine_laws.proofs.Members.{in_names, names_present}
+pub use Rattle.machine_laws.proofs.WritesOfSteps.{is_mover_in}
 pub use Rattle.enabled_set.proofs.Members.{length-members}
 pub use Rattle.enabled_set.proofs.PassCounts.{tally_put}
 pub use Rattle.enabled_set.specs.Counts.{tally}
@@ -33,7 +33,7 @@ pub use Rattle.rule_machine.specs.declared.event.Event.{Event}
 pub use Rattle.rule_machine.specs.declared.reply.Reply.{Reply}
 pub use Rattle.rule_machine.specs.declared.reply.Reply.TheVariants.{Accepted, Refused, Moves, Shown, EnabledAre, Pairs, Counts}
 pub use Rattle.rule_machine.specs.Run.{Entry}
-pub use Rattle.rules_api.specs.Target.{SameAt}
+pub use Rattle.rule_machine.specs.Target.{SameAt}
 pub use Rattle.round_counter.specs.Counting.{AreEnabledIn, HasCounted, IsLocal, CanCount, count_in, is_step, log_after, pending_names, start_after}
 pub use Rattle.round_counter.specs.declared.counter.RoundCounter.{RoundCounter}
 pub use Rattle.round_counter.specs.Serving.{is_served_by}

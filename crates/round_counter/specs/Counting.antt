@@ -9,7 +9,7 @@ use Rattle.rule_machine.specs.Network.{names, present}
 use Rattle.rule_machine.specs.State.{State, IsState}
 use Rattle.rule_machine.specs.RuleTable.{RuleTable, rule_at, enabled_names}
 use Rattle.rule_machine.specs.Run.{Entry}
-use Rattle.rules_api.specs.Target.{SameAt}
+use Rattle.rule_machine.specs.Target.{SameAt}
 use Rattle.round_laws.specs.Rounds.{rounds_in, rounds_from}
 use Rattle.round_laws.specs.RoundCounts.{RoundCount}
 use Rattle.round_counter.specs.declared.counter.RoundCounter.{RoundCounter}

@@ -13,7 +13,7 @@
 -- a suitor or to a null node is enabled until it moves, and then it points up. So the third round ends with a
 -- new pair. If some nodes are in a pair, there are two fewer to come.
 use Rattle.round_laws.proofs.Prelude.{◌≡◌, ◌≢◌, ℕ, suc, ◌+◌, ◌-◌, ◌*◌, ◌/◌, ◌<◌, ◌≤◌, true, false, not, List, [], ◌∷◌, None, Some, nat_eq, IsTrue, refl, sym, ap, ◌∙◌, subst, inl, inr, ◌⊎◌, ⊎_elim, arith, cases_lt, cases_Bool, or_left, eq-eqb, true≢false, false_from_ne_true, none-some, Act, Update, Marry, Seduce, Abandon, Moved, Item, linked, names, node_count, State, IsState, pointer, flag, enabled_names, manne, IsStep, Entry, Moment, Run, pointer_linked, suitor_linked, linked_back, linked_apart, linked_present, present_range, IsUndisturbed, manne_asks, manne_inside, manne_table, IsIn, count_all, in_names, names_without_repeats, IsDone, step_done, stance, is_paired, paired_is, married_is, is_mover_in, count_less_two, count_one, count_two, Turn, among_from, IsAmong, is_single, singles, single_free, single_waiting, unmarried_nodes, rounds_in}
-use Rattle.charge_laws.proofs.NodeMoves.{Deed, idles, updates, marries, seduces, abandons}
+use Rattle.machine_laws.proofs.NodeMoves.{Deed, idles, updates, marries, seduces, abandons}
 use Rattle.round_laws.proofs.Counting.{left, still_pending, in_enabled, some_or_none, Owed, IsRoundBudget, rounds_within, rounds_settle}
 use Rattle.round_laws.proofs.NewPairs.{paired_at, pair_falls, singles_fall, singles_of, singles_are, singles_few, single_from, single_is}
 use Rattle.round_laws.proofs.JointTurns.{JointTurn, turn_at, IsPaired, IsPlain, IsRight, IsUpward, IsAlone, null_alone, Weds, IsCourted, PointsUp, IsLow, off, up_holds, plain_kept, upward_kept, was_flagged, was_down, was_left, was_unset, right_kept, courted_step, null_step, low_step, up_is_courted, descend}

@@ -1,7 +1,7 @@
 -- Manne's guards, in pointers and flags: which hold if only nodes of a pair are flagged, and what a step does
 -- at each node.
 use Rattle.round_laws.proofs.Prelude.{◌≡◌, ◌≢◌, ℕ, ◌<◌, ◌≤◌, Bool, true, false, cond, not, ◌&&◌, ◌||◌, List, None, Some, is_some, is_none, find, nat_lt, nat_le, IsTrue, sym, ap, ◌∙◌, inl, inr, ◌⊎◌, ⊎_elim, arith, and_parts, and_from, or_cases, or_left, or_right, cases_Bool, true≢false, not-true, not_from_false, false_from_ne_true, le-leb, leb-true, lt-ltb, ltb-true, Act, Update, Marry, Seduce, Abandon, Moved, linked, neighbours, State, IsState, pointer, flag, points, married, has_suitor, is_settled, holds_at, manne, may_court, no_suitor, suitor_some, suitor_from, points_true, points_from, near_found, near_some, some_is, null_unmarried, unanswered_unmarried, holds_is, stance, is_paired, null_is, null_from, married_is, is_mover_in}
-use Rattle.charge_laws.proofs.NodeMoves.{Deed, idles, updates, marries, seduces, abandons}
+use Rattle.machine_laws.proofs.NodeMoves.{Deed, idles, updates, marries, seduces, abandons}
 use Rattle.round_laws.proofs.JointTurns.{JointTurn, idles, updates, takes, courts, leaves, IsPaired, IsPlain, IsRight, null_alone, unanswered_alone}
 
 -- ---- tests of flags

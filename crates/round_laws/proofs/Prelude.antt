@@ -32,18 +32,18 @@ pub use Rattle.machine_laws.proofs.Neighbours.{option_cases, names_none, names_s
 pub use Rattle.machine_laws.proofs.Pointers.{some_is, pointer_linked, suitor_linked, no_suitor, suitor_some, suitor_from, points_true, points_from, null_unmarried, unanswered_unmarried, married_from, married_some}
 pub use Rattle.machine_laws.proofs.Runs.{answers_keep, runs_end_in_states}
 pub use Rattle.machine_laws.proofs.Writes.{pointer-with_pointer_same, pointer-with_pointer_other, flag-with_flag_same, flag-with_flag_other}
-pub use Rattle.rules_api.specs.Table.{AsksForWork}
-pub use Rattle.charge_laws.specs.ChargeWords.{IsUndisturbed, steps_of, steps_in}
-pub use Rattle.charge_laws.proofs.Asks.{hsu_huang_asks, manne_asks}
-pub use Rattle.charge_laws.proofs.HsuHuangFalls.{IsSolo, SoloTurn, takes, courts, leaves, one_mover, solo_from}
-pub use Rattle.charge_laws.proofs.ListCounts.{IsIn, IsWithoutRepeats, count_agree, count_all}
-pub use Rattle.charge_laws.proofs.Members.{in_names, names_present, names_without_repeats}
-pub use Rattle.charge_laws.proofs.NodeMoves.{Deed, IsDone, IsInside, step_done}
-pub use Rattle.charge_laws.proofs.PresentMovers.{hsu_huang_inside, manne_inside, holds_is}
-pub use Rattle.charge_laws.proofs.Stances.{stance, is_paired, null_is, null_from, paired_from, paired_is, married_is}
-pub use Rattle.charge_laws.proofs.Tables.{hsu_huang_table, manne_table}
+pub use Rattle.rule_machine.specs.Table.{AsksForWork}
+pub use Rattle.machine_laws.specs.ChargeWords.{IsUndisturbed, steps_of, steps_in}
+pub use Rattle.machine_laws.proofs.Asks.{hsu_huang_asks, manne_asks}
+pub use Rattle.machine_laws.proofs.HsuHuangFalls.{IsSolo, SoloTurn, takes, courts, leaves, one_mover, solo_from}
+pub use Rattle.machine_laws.proofs.ListCounts.{IsIn, IsWithoutRepeats, count_agree, count_all}
+pub use Rattle.machine_laws.proofs.Members.{in_names, names_present, names_without_repeats}
+pub use Rattle.machine_laws.proofs.NodeMoves.{Deed, IsDone, IsInside, step_done}
+pub use Rattle.machine_laws.proofs.PresentMovers.{hsu_huang_inside, manne_inside, holds_is}
+pub use Rattle.machine_laws.proofs.Stances.{stance, is_paired, null_is, null_from, paired_from, paired_is, married_is}
+pub use Rattle.machine_laws.proofs.Tables.{hsu_huang_table, manne_table}
 pub use Rattle.round_laws.proofs.Turns.{Turn, stays, marries, seduces, abandons, pair_stays, paired_stays, solo_turn}
-pub use Rattle.charge_laws.proofs.Writes.{is_mover_in}
+pub use Rattle.machine_laws.proofs.WritesOfSteps.{is_mover_in}
 pub use Rattle.dense_laws.specs.Potential.{unmarried_nodes}
 pub use Rattle.dense_laws.proofs.Counts.{IsGone, count_exists, count_le, count_less_two, count_one, count_two}
 pub use Rattle.dense_laws.proofs.Falls.{among_from}

@@ -2,8 +2,8 @@
 -- stays a pair, since only an unanswered pointer is given up.
 use Rattle.std.proofs.Common.{◌≡◌, ◌≢◌, ℕ, Option, None, Some, IsTrue, sym, subst, ⊎_elim, arith}
 use Rattle.std.proofs.lemmas.Bool.{cases_eq}
-use Rattle.charge_laws.proofs.HsuHuangFalls.{IsSolo, SoloTurn, takes, courts, leaves}
-use Rattle.charge_laws.proofs.Stances.{stance, Paired, is_paired, paired_is, paired_from}
+use Rattle.machine_laws.proofs.HsuHuangFalls.{IsSolo, SoloTurn, takes, courts, leaves}
+use Rattle.machine_laws.proofs.Stances.{stance, Paired, is_paired, paired_is, paired_from}
 
 -- When the pointers p become p', v does nothing, or takes a suitor, or points from null at a null node, or
 -- gives up a node that does not point back.

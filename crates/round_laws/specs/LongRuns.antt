@@ -4,7 +4,7 @@ use Rattle.rule_machine.specs.Network.{node_count}
 use Rattle.rule_machine.specs.State.{IsState}
 use Rattle.rule_machine.specs.RuleTable.{RuleTable}
 use Rattle.rule_machine.specs.Run.{Entry, Moment, Run}
-use Rattle.charge_laws.specs.ChargeWords.{IsUndisturbed}
+use Rattle.machine_laws.specs.ChargeWords.{IsUndisturbed}
 use Rattle.round_laws.specs.Rounds.{rounds_in}
 
 -- there is a run of n nodes, without a disturbance, that completes this many rounds

@@ -8,7 +8,7 @@ use Rattle.rule_machine.specs.State.{State}
 use Rattle.rule_machine.specs.RuleTable.{RuleTable, rule_at}
 use Rattle.rule_machine.specs.Run.{Entry}
 use Rattle.machine_laws.specs.StatesAfterReplies.{followed}
-use Rattle.charge_laws.specs.ChargeWords.{steps_in, IsUndisturbed}
+use Rattle.machine_laws.specs.ChargeWords.{steps_in, IsUndisturbed}
 
 -- whether a reply has a move of v
 abbrev pub has_move : Reply → ℕ → Bool

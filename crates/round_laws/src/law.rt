@@ -9,7 +9,7 @@ ghost use Rattle.rule_machine.specs.RuleTable.{RuleTable, enabled_names};
 ghost use Rattle.rule_machine.specs.HsuHuang.{hsu_huang};
 ghost use Rattle.rule_machine.specs.Manne.{manne};
 ghost use Rattle.rule_machine.specs.Run.{Entry, Moment, Run};
-ghost use Rattle.charge_laws.specs.ChargeWords.{IsUndisturbed};
+ghost use Rattle.machine_laws.specs.ChargeWords.{IsUndisturbed};
 ghost use Rattle.dense_laws.specs.Potential.{unmarried_nodes};
 ghost use Rattle.round_laws.specs.LongRuns.{HasRun};
 ghost use Rattle.round_laws.specs.Pieces.{IsCut, state_from};

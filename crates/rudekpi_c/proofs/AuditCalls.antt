@@ -2,13 +2,13 @@
 use Rattle.std.proofs.Common.{◌≡◌, ◌≢◌, ◌∙◌, ◌++◌, ℕ, List, Option, Some, Result, Err, refl, sym, ap, subst}
 use Rattle.auditor.specs.declared.fault.AuditFault.{AuditFault}
 use Rattle.auditor.specs.declared.fault.AuditFault.TheVariants.{Memory}
-use Rattle.auditor.specs.declared.pieces.PieceAudit.{PieceAudit}
+use Rattle.auditor.specs.declared.piece_audit.PieceAudit.{PieceAudit}
 use Rattle.auditor.specs.declared.summary.Summary.{Summary}
 use Rattle.auditor.specs.Damage.{IsDamage}
 use Rattle.auditor.specs.AuditPieces.{HasReadPieces}
 use Rattle.auditor.specs.TranscriptCursors.{IsIncrementalAudit}
 use Rattle.auditor.specs.Verdict.{IsJudged, JudgesDamage, JudgesRuns, found_by}
-use Rattle.rudekpi_c.specs.declared.judged.Verdict.{Verdict}
+use Rattle.rudekpi_c.specs.declared.verdict.Verdict.{Verdict}
 use Rattle.rudekpi_c.specs.AuditCalls.{AuditEnded, AuditFed, found_status}
 use Rattle.rudekpi_c.specs.AuditVerdicts.{audit_verdict}
 use Rattle.rudekpi_c.proofs.AuditVerdicts.{judged_as}

@@ -6,7 +6,7 @@ use Rattle.auditor.specs.declared.summary.Summary.{Summary}
 use Rattle.auditor.specs.AcceptedRuns.{IsAccepted}
 use Rattle.auditor.specs.Damage.{IsDamage}
 use Rattle.auditor.specs.Verdict.{IsJudged}
-use Rattle.rudekpi_c.specs.declared.judged.Verdict.{Verdict}
+use Rattle.rudekpi_c.specs.declared.verdict.Verdict.{Verdict}
 use Rattle.rudekpi_c.specs.AuditVerdicts.{JudgedAs, accepted, damaged, unjudged, audit_verdict}
 
 says_found : (bytes : List ℕ) (found : Result Summary AuditFault) → IsJudged bytes found

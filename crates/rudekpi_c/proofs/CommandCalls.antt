@@ -10,7 +10,7 @@ use Rattle.step_log.specs.declared.fault.RecordFault.{RecordFault}
 use Rattle.step_log.specs.declared.fault.RecordFault.TheVariants.{LogFull, Memory}
 use Rattle.run_session.specs.Line.{CommandEnds}
 use Rattle.rudekpi_c.specs.declared.session.Session.{Session}
-use Rattle.rudekpi_c.specs.declared.told.CallResult.{CallResult}
+use Rattle.rudekpi_c.specs.declared.call_result.CallResult.{CallResult}
 use Rattle.rudekpi_c.specs.Session.{stands, rules_of, limit_of, GoesOn, CommandEnded}
 use Rattle.rudekpi_c.specs.SilentDrives.{Silences}
 use Rattle.rudekpi_c.specs.Slot.{IsPutBack}

@@ -10,7 +10,7 @@ use Rattle.auditor.proofs.VerdictUniqueness.{judged_accepts, judged_names}
 use Rattle.audit_parts.specs.Continuations.{ContinuesRun}
 use Rattle.audit_parts.specs.FieldRanges.{AreLinesBefore, FitsFields}
 use Rattle.audit_parts.specs.Seams as seams
-use Rattle.rudekpi_c.specs.declared.judged.Verdict.{Verdict}
+use Rattle.rudekpi_c.specs.declared.verdict.Verdict.{Verdict}
 use Rattle.rudekpi_c.specs.JoinCalls.{CountsLines, IsJoined, IsUnjoined, said_by}
 use Rattle.rudekpi_c.specs.AuditVerdicts.{JudgedAs, accepted, damaged, unjudged, audit_verdict}
 use Rattle.rudekpi_c.proofs.AuditVerdicts.{judged_as}

@@ -1,12 +1,12 @@
 -- A session that goes on where a transcript's run ended.
 use Rattle.std.proofs.Common.{◌≡◌, ◌⊎◌, ℕ, List, Option, None, Some, Result, Ok, Err, inl, inr, refl, sym, ap, subst}
-use Rattle.auditor.specs.declared.end.TranscriptEnd.{TranscriptEnd}
+use Rattle.auditor.specs.declared.transcript_end.TranscriptEnd.{TranscriptEnd}
 use Rattle.auditor.specs.declared.fault.AuditFault.{AuditFault}
 use Rattle.auditor.specs.declared.fault.AuditFault.TheVariants.{Memory}
 use Rattle.auditor.specs.TranscriptEnds.{EndsRun, summary_in}
 use Rattle.auditor.specs.Verdict.{JudgesDamage, JudgesRuns}
 use Rattle.auditor.proofs.TranscriptEnds.{ends_judged}
-use Rattle.rudekpi_c.specs.declared.judged.Verdict.{Verdict}
+use Rattle.rudekpi_c.specs.declared.verdict.Verdict.{Verdict}
 use Rattle.rudekpi_c.specs.declared.session.Session.{Session}
 use Rattle.rudekpi_c.specs.AuditCalls.{found_status}
 use Rattle.rudekpi_c.specs.AuditVerdicts.{JudgedAs, accepted, damaged, audit_verdict}

@@ -3,11 +3,11 @@ use Rattle.std.proofs.Common.{◌≡◌, ◌≢◌, ℕ, ◌+◌, ◌-◌, ◌�
 use Rattle.std.proofs.lemmas.List.Elements.{All-append}
 use Rattle.std.proofs.lemmas.List.Sums.{sum_by-cons}
 use Rattle.std.proofs.lemmas.Option.{none-some, same_Some}
-use Rattle.charge_laws.proofs.Runs.{run_lowers}
-use Rattle.charge_laws.specs.ChargeWords.{IsCharged, IsUndisturbed, moves_in, moves_of}
+use Rattle.machine_laws.proofs.ChargesOfRuns.{run_lowers}
+use Rattle.machine_laws.specs.ChargeWords.{IsCharged, IsUndisturbed, moves_in, moves_of}
 use Rattle.machine_laws.proofs.LeastMoves.{IsTable}
 use Rattle.machine_laws.proofs.Runs.{runs_end_in_states}
-use Rattle.node_bound.specs.MovesLeft.{BoundsMoves}
+use Rattle.move_bounds.specs.MovesLeft.{BoundsMoves}
 use Rattle.round_laws.proofs.Counting.{answer_followed}
 use Rattle.round_laws.specs.RoundCounts.{RoundCount, rounds_of}
 use Rattle.round_laws.specs.Rounds.{rounds_by, rounds_from, rounds_in, round_turn, stays_pending}

@@ -4,9 +4,9 @@ use Rattle.std.specs.Prelude.{IfSome}
 use Rattle.rule_machine.specs.declared.event.Event.TheVariants.{Status}
 use Rattle.rule_machine.specs.Tables.{table_of}
 use Rattle.script_text.specs.declared.command.Command.TheVariants.{Tell}
-use Rattle.rudekpi_c.specs.declared.counted.StatusCounts.{StatusCounts}
+use Rattle.rudekpi_c.specs.declared.status_counts.StatusCounts.{StatusCounts}
 use Rattle.rudekpi_c.specs.declared.session.Session.{Session}
-use Rattle.rudekpi_c.specs.declared.told.CallResult.{CallResult}
+use Rattle.rudekpi_c.specs.declared.call_result.CallResult.{CallResult}
 use Rattle.rudekpi_c.specs.Session.{stands, rules_of, limit_of}
 use Rattle.rudekpi_c.specs.CommandCalls.{AnswersCommand, IsCommandAnswer, IsCommandOutcome}
 use Rattle.rudekpi_c.specs.CountCalls.{AnswersCounts, status_counts, counted_in, counted_kept, counts_at}

@@ -2,11 +2,11 @@
 use Rattle.std.specs.Prelude.{◌≡◌, ◌≢◌, ◌⊎◌, ◌++◌, ℕ, List, [], Option, None, Some, Result, Ok, Err}
 use Rattle.auditor.specs.declared.fault.AuditFault.{AuditFault}
 use Rattle.auditor.specs.declared.fault.AuditFault.TheVariants.{Memory}
-use Rattle.auditor.specs.declared.pieces.PieceAudit.{PieceAudit}
+use Rattle.auditor.specs.declared.piece_audit.PieceAudit.{PieceAudit}
 use Rattle.auditor.specs.Damage.{IsDamage}
 use Rattle.auditor.specs.AuditPieces.{HasReadPieces}
 use Rattle.auditor.specs.Verdict.{found_by}
-use Rattle.rudekpi_c.specs.declared.judged.Verdict.{Verdict}
+use Rattle.rudekpi_c.specs.declared.verdict.Verdict.{Verdict}
 use Rattle.rudekpi_c.specs.AuditVerdicts.{JudgedAs, unjudged}
 
 -- an audit that has been fed nothing and has found no damage

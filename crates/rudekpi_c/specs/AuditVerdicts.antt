@@ -5,7 +5,7 @@ use Rattle.auditor.specs.declared.fault.AuditFault.TheVariants.{BadHeader, NotAL
 use Rattle.auditor.specs.declared.summary.Summary.{Summary}
 use Rattle.auditor.specs.AcceptedRuns.{IsAccepted}
 use Rattle.auditor.specs.Damage.{IsDamage}
-use Rattle.rudekpi_c.specs.declared.judged.Verdict.{Verdict}
+use Rattle.rudekpi_c.specs.declared.verdict.Verdict.{Verdict}
 
 -- the verdict of a transcript that is accepted with these counts
 abbrev pub accepted : Summary → Verdict

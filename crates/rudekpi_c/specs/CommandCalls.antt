@@ -19,9 +19,9 @@ use Rattle.rudekpi_c.specs.Session.{stands, rules_of, limit_of, with_text_if, Go
 use Rattle.rudekpi_c.specs.SilentDrives.{Silences}
 use Rattle.rudekpi_c.specs.Slot.{IsNobody}
 use Rattle.rudekpi_c.specs.ReplyNumbers.{told_of, untold, entry_status}
-use Rattle.rudekpi_c.specs.declared.asked.StepItem.{StepItem}
+use Rattle.rudekpi_c.specs.declared.request.StepItem.{StepItem}
 use Rattle.rudekpi_c.specs.declared.session.Session.{Session}
-use Rattle.rudekpi_c.specs.declared.told.CallResult.{CallResult}
+use Rattle.rudekpi_c.specs.declared.call_result.CallResult.{CallResult}
 
 -- the name, or none for 0
 abbrev pub optional_name : ℕ → Option ℕ

@@ -1,13 +1,13 @@
 -- The cost, for C, of an edit or a fault in a session's state.
 use Rattle.std.specs.Prelude.{◌≡◌, ◌⊎◌, ℕ, Option, None, Some}
 use Rattle.rule_machine.specs.declared.event.Event.{Event}
-use Rattle.rule_machine.specs.declared.rules.RuleSet.{RuleSet}
-use Rattle.rule_machine.specs.declared.rules.RuleSet.TheVariants.{Hh, Manne}
+use Rattle.rule_machine.specs.declared.rule_set.RuleSet.{RuleSet}
+use Rattle.rule_machine.specs.declared.rule_set.RuleSet.TheVariants.{Hh, Manne}
 use Rattle.rule_machine.specs.Run.{Moment}
 use Rattle.rule_machine.specs.RuleTable.{RuleTable}
 use Rattle.rule_machine.specs.State.{State}
 use Rattle.rule_machine.specs.Tables.{table_of}
-use Rattle.charge_laws.specs.Costs.{hsu_huang_cost, manne_cost}
+use Rattle.machine_laws.specs.Costs.{hsu_huang_cost, manne_cost}
 use Rattle.rule_engine.specs.Costs.{disturbance_cost, BoundsGrowth}
 use Rattle.script_text.specs.declared.command.Command.TheVariants.{Tell}
 use Rattle.script_text.specs.Command.{IsCommand}

@@ -7,7 +7,7 @@ use Rattle.auditor.specs.Damage.{line_feeds}
 use Rattle.audit_parts.specs.Continuations.{ContinuesRun}
 use Rattle.audit_parts.specs.FieldRanges.{FitsFields}
 use Rattle.audit_parts.specs.Seams as seams
-use Rattle.rudekpi_c.specs.declared.judged.Verdict.{Verdict}
+use Rattle.rudekpi_c.specs.declared.verdict.Verdict.{Verdict}
 use Rattle.rudekpi_c.specs.AuditVerdicts.{JudgedAs, accepted, damaged, unjudged, audit_verdict}
 
 -- the result that a verdict encodes, by its kind

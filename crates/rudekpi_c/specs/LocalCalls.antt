@@ -3,13 +3,13 @@ use Rattle.std.specs.Prelude.{◌≡◌, ◌≢◌, ℕ, ◌≤◌, min, max, Bo
 use Rattle.rule_machine.specs.declared.act.Act.{Act}
 use Rattle.rule_machine.specs.declared.act.Act.TheVariants.{Update, Marry, Seduce, Abandon}
 use Rattle.rule_machine.specs.declared.base.NodeRecord.{NodeRecord}
-use Rattle.rule_machine.specs.declared.rules.RuleSet.{RuleSet}
-use Rattle.rule_machine.specs.declared.rules.RuleSet.TheVariants.{Hh, Manne}
+use Rattle.rule_machine.specs.declared.rule_set.RuleSet.{RuleSet}
+use Rattle.rule_machine.specs.declared.rule_set.RuleSet.TheVariants.{Hh, Manne}
 use Rattle.rule_machine.specs.State.{State}
 use Rattle.rule_machine.specs.Tables.{table_of}
 use Rattle.local_rule.specs.declared.fault.ViewFault.{ViewFault}
 use Rattle.local_rule.specs.declared.fault.ViewFault.TheVariants.{NotAscending, OwnNeighbour, PointsAtItself, PointsAtStranger}
-use Rattle.local_rule.specs.declared.moves.LocalMove.{LocalMove}
+use Rattle.local_rule.specs.declared.local_move.LocalMove.{LocalMove}
 use Rattle.local_rule.specs.Faults.{first_fault}
 use Rattle.local_rule.specs.Moves.{move_at, may_move_at}
 use Rattle.local_rule.specs.Views.{ShowsAtNode, IsShown, IsNeverShown}

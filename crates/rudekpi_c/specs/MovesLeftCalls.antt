@@ -1,12 +1,12 @@
 -- The bound on the moves that can still come in a session's state, for C.
 use Rattle.std.specs.Prelude.{◌≡◌, ℕ, Option, None, Some}
-use Rattle.rule_machine.specs.declared.rules.RuleSet.{RuleSet}
-use Rattle.rule_machine.specs.declared.rules.RuleSet.TheVariants.{Hh, Manne}
+use Rattle.rule_machine.specs.declared.rule_set.RuleSet.{RuleSet}
+use Rattle.rule_machine.specs.declared.rule_set.RuleSet.TheVariants.{Hh, Manne}
 use Rattle.rule_machine.specs.RuleTable.{RuleTable}
 use Rattle.rule_machine.specs.Run.{Moment}
 use Rattle.rule_machine.specs.Tables.{table_of}
 use Rattle.dense_laws.specs.Bound.{dense_bound}
-use Rattle.node_bound.specs.MovesLeft.{moves_left, BoundsMoves}
+use Rattle.move_bounds.specs.MovesLeft.{moves_left, BoundsMoves}
 use Rattle.rudekpi_c.specs.Session.{stands, rules_of}
 use Rattle.rudekpi_c.specs.declared.session.Session.{Session}
 

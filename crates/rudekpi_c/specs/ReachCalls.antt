@@ -4,7 +4,7 @@ use Rattle.rule_machine.specs.declared.event.Event.{Event}
 use Rattle.rule_machine.specs.RuleTable.{RuleTable}
 use Rattle.rule_machine.specs.Run.{Entry, Moment, Run}
 use Rattle.rule_machine.specs.Tables.{table_of}
-use Rattle.charge_laws.specs.ChargeWords.{IsUndisturbed}
+use Rattle.machine_laws.specs.ChargeWords.{IsUndisturbed}
 use Rattle.containment_laws.specs.Rest.{is_at_rest}
 use Rattle.containment_laws.specs.Movers.{has_moved, KeepsRegisters}
 use Rattle.rule_engine.specs.DisturbanceReach.{reach_of}

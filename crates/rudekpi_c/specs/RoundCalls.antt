@@ -5,7 +5,7 @@ use Rattle.rule_machine.specs.RuleTable.{RuleTable, enabled_names}
 use Rattle.rule_machine.specs.Run.{Entry, Moment, Run}
 use Rattle.rule_machine.specs.State.{State, IsState}
 use Rattle.rule_machine.specs.Tables.{table_of}
-use Rattle.charge_laws.specs.ChargeWords.{IsUndisturbed}
+use Rattle.machine_laws.specs.ChargeWords.{IsUndisturbed}
 use Rattle.round_laws.specs.RoundCounts.{RoundCount, count_of_log, first_count}
 use Rattle.round_laws.specs.Rounds.{rounds_from, rounds_in}
 use Rattle.script_text.specs.Script.{Progress}

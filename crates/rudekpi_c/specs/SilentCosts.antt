@@ -1,15 +1,15 @@
 -- The cost of an edit or a fault in a session whose network is silent, for C.
 use Rattle.std.specs.Prelude.{◌≡◌, ◌⊎◌, ℕ, [], Option, None, Some}
 use Rattle.rule_machine.specs.declared.event.Event.{Event}
-use Rattle.rule_machine.specs.declared.rules.RuleSet.{RuleSet}
-use Rattle.rule_machine.specs.declared.rules.RuleSet.TheVariants.{Hh, Manne}
+use Rattle.rule_machine.specs.declared.rule_set.RuleSet.{RuleSet}
+use Rattle.rule_machine.specs.declared.rule_set.RuleSet.TheVariants.{Hh, Manne}
 use Rattle.rule_machine.specs.RuleTable.{RuleTable, enabled_names}
 use Rattle.rule_machine.specs.Run.{Moment}
 use Rattle.rule_machine.specs.State.{State}
 use Rattle.rule_machine.specs.Tables.{table_of}
 use Rattle.rule_engine.specs.Costs.{disturbance_cost}
 use Rattle.silence_laws.specs.Costs.{silent_cost, manne_silent_cost}
-use Rattle.silent_cost.specs.FromSilence.{BoundsMovesAfter}
+use Rattle.move_bounds.specs.FromSilence.{BoundsMovesAfter}
 use Rattle.script_text.specs.declared.command.Command.TheVariants.{Tell}
 use Rattle.script_text.specs.Command.{IsCommand}
 use Rattle.rudekpi_c.specs.Session.{stands, rules_of}

@@ -8,7 +8,7 @@ use Rattle.rudekpi_c.specs.ReplyNumbers.{number_of, pair_row}
 use Rattle.rudekpi_c.specs.Session.{stands}
 use Rattle.rudekpi_c.specs.declared.row.Row.{Row}
 use Rattle.rudekpi_c.specs.declared.session.Session.{Session}
-use Rattle.rudekpi_c.specs.declared.state_views.NodeView.{NodeView}
+use Rattle.rudekpi_c.specs.declared.node_view.NodeView.{NodeView}
 
 -- the session's state
 abbrev pub state_at : Session → State

@@ -1,7 +1,7 @@
 //! C's slot for an audit. Sessions have another slot type, since C's types have no type parameters.
 
 ghost use Rattle.std.specs.Prelude.{◌≡◌, ◌↔◌, None, Some, Option, IsTrue, IsNone, IfSome};
-ghost use Rattle.auditor.specs.declared.pieces.PieceAudit.{PieceAudit};
+ghost use Rattle.auditor.specs.declared.piece_audit.PieceAudit.{PieceAudit};
 ghost use Rattle.rudekpi_c.specs.HandleOwnership.{held_audit, held_audit_coded};
 
 use crate::parts::Parts;

@@ -4,8 +4,8 @@ ghost use Rattle.std.specs.Prelude.{◌≡◌, None};
 ghost use Rattle.rudekpi_c.specs.AuditCalls.{AuditBegun, AuditEnded, AuditFed, found_status};
 
 use crate::audit_slot::AuditSlot;
-use crate::judged::{Verdict, told, unsaid};
 use crate::status::{DAMAGED, DONE, MEMORY, NO_SESSION};
+use crate::verdict::{Verdict, told, unsaid};
 use auditor::{AuditFault, PieceAudit};
 use std::alloc::Global;
 

@@ -9,11 +9,11 @@ ghost use Rattle.script_text.specs.Command.{IsCommand};
 ghost use Rattle.rudekpi_c.specs.CommandCalls.{AnswersCommand, command_status, optional_name, step_named};
 ghost use Rattle.rudekpi_c.specs.CountCalls.{AnswersCounts};
 
-use crate::asked::{self, StepItem};
-use crate::counted::{StatusCounts, counted_of};
+use crate::call_result::CallResult;
+use crate::request::{self, StepItem};
 use crate::slot::Slot;
 use crate::status::{BAD_ARGUMENT, DONE, LOG_FULL, MEMORY, NO_SESSION, REFUSED};
-use crate::told::CallResult;
+use crate::status_counts::{StatusCounts, counted_of};
 use rule_machine::{Event, Reply};
 use script_text::Command;
 use std::alloc::Global;
@@ -75,7 +75,7 @@ pub extern "C" fn rudekpi_link(
 ) -> u32
     ensures { AnswersCommand (Tell (Link a b)) result told.new slot.old.handle.value slot.new.handle.value }
 {
-    call(alloc, slot, asked::link(a, b), told)
+    call(alloc, slot, request::link(a, b), told)
 }
 
 /// Removes an edge.
@@ -89,7 +89,7 @@ pub extern "C" fn rudekpi_unlink(
 ) -> u32
     ensures { AnswersCommand (Tell (Unlink a b)) result told.new slot.old.handle.value slot.new.handle.value }
 {
-    call(alloc, slot, asked::unlink(a, b), told)
+    call(alloc, slot, request::unlink(a, b), told)
 }
 
 /// Makes a name present.
@@ -102,7 +102,7 @@ pub extern "C" fn rudekpi_join(
 ) -> u32
     ensures { AnswersCommand (Tell (Join node)) result told.new slot.old.handle.value slot.new.handle.value }
 {
-    call(alloc, slot, asked::join(node), told)
+    call(alloc, slot, request::join(node), told)
 }
 
 /// Makes a node absent, and removes its edges.
@@ -115,7 +115,7 @@ pub extern "C" fn rudekpi_leave(
 ) -> u32
     ensures { AnswersCommand (Tell (Leave node)) result told.new slot.old.handle.value slot.new.handle.value }
 {
-    call(alloc, slot, asked::leave(node), told)
+    call(alloc, slot, request::leave(node), told)
 }
 
 /// Writes a node's pointer; 0 is null.
@@ -129,7 +129,7 @@ pub extern "C" fn rudekpi_point(
 ) -> u32
     ensures { AnswersCommand (Tell (Point node (optional_name target))) result told.new slot.old.handle.value slot.new.handle.value }
 {
-    call(alloc, slot, asked::point(node, target), told)
+    call(alloc, slot, request::point(node, target), told)
 }
 
 /// Writes a node's flag.
@@ -143,7 +143,7 @@ pub extern "C" fn rudekpi_flag(
 ) -> u32
     ensures { AnswersCommand (Tell (Flag node value)) result told.new slot.old.handle.value slot.new.handle.value }
 {
-    call(alloc, slot, asked::flag(node, value), told)
+    call(alloc, slot, request::flag(node, value), told)
 }
 
 /// Moves the chosen nodes at once; returns 5 also for more than 65,535 items.
@@ -156,7 +156,7 @@ pub extern "C" fn rudekpi_step(
 ) -> u32
     ensures { AnswersCommand (Tell (step_named items.now)) result told.new slot.old.handle.value slot.new.handle.value }
 {
-    match asked::step(alloc, items) {
+    match request::step(alloc, items) {
         Ok(command) => call(alloc, slot, command, told),
         Err(_) => fail_memory(alloc, slot, told),
     }
@@ -172,7 +172,7 @@ pub extern "C" fn rudekpi_show(
 ) -> u32
     ensures { AnswersCommand (Tell (Show node)) result told.new slot.old.handle.value slot.new.handle.value }
 {
-    call(alloc, slot, asked::show(node), told)
+    call(alloc, slot, request::show(node), told)
 }
 
 /// Asks for the enabled nodes.
@@ -218,7 +218,7 @@ pub extern "C" fn rudekpi_drive(
 ) -> u32
     ensures { AnswersCommand (Drive (record { seed = seed; count = count })) result told.new slot.old.handle.value slot.new.handle.value }
 {
-    call(alloc, slot, asked::drive(seed, count), told)
+    call(alloc, slot, request::drive(seed, count), told)
 }
 
 /// Makes up to `count` seeded faults; returns 5 for more than 1,000,000.
@@ -232,7 +232,7 @@ pub extern "C" fn rudekpi_scramble(
 ) -> u32
     ensures { AnswersCommand (Scramble (record { seed = seed; count = count })) result told.new slot.old.handle.value slot.new.handle.value }
 {
-    call(alloc, slot, asked::scramble(seed, count), told)
+    call(alloc, slot, request::scramble(seed, count), told)
 }
 
 /// Adds the lines of a base.

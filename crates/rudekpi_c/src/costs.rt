@@ -8,7 +8,7 @@ ghost use Rattle.script_text.specs.Command.{IsCommand};
 ghost use Rattle.rudekpi_c.specs.CommandCalls.{optional_name};
 ghost use Rattle.rudekpi_c.specs.CostCalls.{AnswersCost};
 
-use crate::asked;
+use crate::request;
 use crate::slot::Slot;
 use crate::status::{BAD_ARGUMENT, DONE, NO_SESSION};
 use script_text::Command;
@@ -46,7 +46,7 @@ pub extern "C" fn rudekpi_cost_of_link(
     ensures costed { AnswersCost (Link a b) result cost.new slot.old.handle.value }
     ensures kept { slot.new.handle.value ≡ slot.old.handle.value }
 {
-    cost_of(alloc, slot, asked::link(a, b), cost)
+    cost_of(alloc, slot, request::link(a, b), cost)
 }
 
 /// Writes the cost of unlinking two nodes.
@@ -61,7 +61,7 @@ pub extern "C" fn rudekpi_cost_of_unlink(
     ensures costed { AnswersCost (Unlink a b) result cost.new slot.old.handle.value }
     ensures kept { slot.new.handle.value ≡ slot.old.handle.value }
 {
-    cost_of(alloc, slot, asked::unlink(a, b), cost)
+    cost_of(alloc, slot, request::unlink(a, b), cost)
 }
 
 /// Writes the cost of a node's joining.
@@ -75,7 +75,7 @@ pub extern "C" fn rudekpi_cost_of_join(
     ensures costed { AnswersCost (Join node) result cost.new slot.old.handle.value }
     ensures kept { slot.new.handle.value ≡ slot.old.handle.value }
 {
-    cost_of(alloc, slot, asked::join(node), cost)
+    cost_of(alloc, slot, request::join(node), cost)
 }
 
 /// Writes the cost of a node's leaving.
@@ -89,7 +89,7 @@ pub extern "C" fn rudekpi_cost_of_leave(
     ensures costed { AnswersCost (Leave node) result cost.new slot.old.handle.value }
     ensures kept { slot.new.handle.value ≡ slot.old.handle.value }
 {
-    cost_of(alloc, slot, asked::leave(node), cost)
+    cost_of(alloc, slot, request::leave(node), cost)
 }
 
 /// Writes the cost of writing a node's pointer; the target 0 is null.
@@ -104,7 +104,7 @@ pub extern "C" fn rudekpi_cost_of_point(
     ensures costed { AnswersCost (Point node (optional_name target)) result cost.new slot.old.handle.value }
     ensures kept { slot.new.handle.value ≡ slot.old.handle.value }
 {
-    cost_of(alloc, slot, asked::point(node, target), cost)
+    cost_of(alloc, slot, request::point(node, target), cost)
 }
 
 /// Writes the cost of writing a node's flag.
@@ -119,5 +119,5 @@ pub extern "C" fn rudekpi_cost_of_flag(
     ensures costed { AnswersCost (Flag node value) result cost.new slot.old.handle.value }
     ensures kept { slot.new.handle.value ≡ slot.old.handle.value }
 {
-    cost_of(alloc, slot, asked::flag(node, value), cost)
+    cost_of(alloc, slot, request::flag(node, value), cost)
 }

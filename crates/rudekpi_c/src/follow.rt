@@ -11,8 +11,7 @@ ghost use Rattle.rudekpi_c.specs.CostCalls.{GrowsBy};
 ghost use Rattle.rudekpi_c.specs.SilentDrives.{Silences};
 
 use registers::Registers;
-use rule_machine::{Event, Node, Reply};
-use rules_api::Rules;
+use rule_machine::{Event, Node, Reply, Rules};
 use run_session::Run;
 use script_text::Command;
 use std::alloc::Global;

@@ -3,8 +3,8 @@
 ghost use Rattle.std.specs.Prelude.{◌≡◌, ◌≤◌, MatchOption};
 ghost use Rattle.rudekpi_c.specs.JoinCalls.{AuditJoined, said_by};
 
-use crate::judged::{Verdict, told};
 use crate::status::{BAD_ARGUMENT, DONE};
+use crate::verdict::{Verdict, told};
 use audit_parts::join;
 use auditor::{AuditFault, Summary};
 

@@ -1,7 +1,7 @@
 //! A bound on the moves that can still come in a session's state. Asking makes no entry.
 
 ghost use Rattle.std.specs.Prelude.{◌≡◌};
-ghost use Rattle.node_bound.specs.MovesLeft.{moves_left, BoundsMoves};
+ghost use Rattle.move_bounds.specs.MovesLeft.{moves_left, BoundsMoves};
 ghost use Rattle.rudekpi_c.specs.MovesLeftCalls.{AnswersMovesLeft};
 
 use crate::slot::Slot;

@@ -17,22 +17,22 @@
 //! ```
 #![tactic(auto)]
 
-mod asked;
 mod audit_slot;
 mod audits;
+mod call_result;
 mod calls;
 mod costs;
-mod counted;
 mod follow;
 mod handle;
 mod joined;
-mod judged;
 mod left;
 mod local;
 mod looks;
+mod node_view;
 mod parts;
 mod reach;
 mod renumber;
+mod request;
 mod resume;
 mod rounds;
 mod row;
@@ -40,7 +40,7 @@ mod session;
 mod sessions;
 mod silence;
 mod slot;
-mod state_views;
 mod status;
-mod told;
+mod status_counts;
+mod verdict;
 mod version;

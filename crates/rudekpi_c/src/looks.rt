@@ -3,10 +3,10 @@
 ghost use Rattle.std.specs.Prelude.{◌≡◌, ◌≤◌, ◌<◌, ◌++◌, length, drop};
 ghost use Rattle.rudekpi_c.specs.SessionQuestions.{AnswersKeep, AnswersPartner, rows_kept};
 
+use crate::call_result::{count_rows, number_told, write_rows};
 use crate::row::Row;
 use crate::slot::Slot;
 use crate::status::{BAD_ARGUMENT, DONE, NO_SESSION};
-use crate::told::{count_rows, number_told, write_rows};
 use rule_machine::Node;
 use std::alloc::Global;
 

@@ -13,12 +13,11 @@ ghost use Rattle.rudekpi_c.specs.CommandCalls.{optional_name};
 ghost use Rattle.rudekpi_c.specs.ReachCalls.{rests_at, StaysAtRest, reach_at, AnswersRest, AnswersReach};
 ghost use Rattle.rudekpi_c.specs.Session.{stands, rules_of};
 
-use crate::asked;
+use crate::request;
 use crate::session::{Machine, Session};
 use crate::slot::Slot;
 use crate::status::{BAD_ARGUMENT, DONE, MEMORY, NO_SESSION};
-use rule_machine::{Event, Node, Want};
-use rules_api::Rules;
+use rule_machine::{Event, Node, Rules, Want};
 use run_session::Run;
 use script_text::Command;
 use std::alloc::Global;
@@ -142,7 +141,7 @@ pub extern "C" fn rudekpi_reach_of_link(
     ensures reached { AnswersReach (Link a b) result count.new out.old out.new slot.old.handle.value }
     ensures kept { slot.new.handle.value ≡ slot.old.handle.value }
 {
-    reach_of(alloc, slot, asked::link(a, b), out, count)
+    reach_of(alloc, slot, request::link(a, b), out, count)
 }
 
 /// Like `rudekpi_reach_of_link`, for the removal of an edge.
@@ -158,7 +157,7 @@ pub extern "C" fn rudekpi_reach_of_unlink(
     ensures reached { AnswersReach (Unlink a b) result count.new out.old out.new slot.old.handle.value }
     ensures kept { slot.new.handle.value ≡ slot.old.handle.value }
 {
-    reach_of(alloc, slot, asked::unlink(a, b), out, count)
+    reach_of(alloc, slot, request::unlink(a, b), out, count)
 }
 
 /// Like `rudekpi_reach_of_link`, for a node that joins.
@@ -173,7 +172,7 @@ pub extern "C" fn rudekpi_reach_of_join(
     ensures reached { AnswersReach (Join node) result count.new out.old out.new slot.old.handle.value }
     ensures kept { slot.new.handle.value ≡ slot.old.handle.value }
 {
-    reach_of(alloc, slot, asked::join(node), out, count)
+    reach_of(alloc, slot, request::join(node), out, count)
 }
 
 /// Like `rudekpi_reach_of_link`, for a node that leaves.
@@ -188,7 +187,7 @@ pub extern "C" fn rudekpi_reach_of_leave(
     ensures reached { AnswersReach (Leave node) result count.new out.old out.new slot.old.handle.value }
     ensures kept { slot.new.handle.value ≡ slot.old.handle.value }
 {
-    reach_of(alloc, slot, asked::leave(node), out, count)
+    reach_of(alloc, slot, request::leave(node), out, count)
 }
 
 /// Like `rudekpi_reach_of_link`, for a write of a pointer; the target 0 is null.
@@ -204,7 +203,7 @@ pub extern "C" fn rudekpi_reach_of_point(
     ensures reached { AnswersReach (Point node (optional_name target)) result count.new out.old out.new slot.old.handle.value }
     ensures kept { slot.new.handle.value ≡ slot.old.handle.value }
 {
-    reach_of(alloc, slot, asked::point(node, target), out, count)
+    reach_of(alloc, slot, request::point(node, target), out, count)
 }
 
 /// Like `rudekpi_reach_of_link`, for a write of a flag.
@@ -220,5 +219,5 @@ pub extern "C" fn rudekpi_reach_of_flag(
     ensures reached { AnswersReach (Flag node value) result count.new out.old out.new slot.old.handle.value }
     ensures kept { slot.new.handle.value ≡ slot.old.handle.value }
 {
-    reach_of(alloc, slot, asked::flag(node, value), out, count)
+    reach_of(alloc, slot, request::flag(node, value), out, count)
 }

@@ -10,8 +10,7 @@ use crate::session::{Machine, Session};
 use crate::slot::Slot;
 use crate::status::{DONE, MEMORY, NO_SESSION};
 use line_text::put_base;
-use rule_machine::Want;
-use rules_api::Rules;
+use rule_machine::{Rules, Want};
 use run_session::Run;
 use std::alloc::{AllocError, Global};
 

@@ -8,14 +8,13 @@ ghost use Rattle.rudekpi_c.specs.Resumption.{GoesOnFrom, ResumesSession, resumed
 
 use crate::audits::status_of;
 use crate::follow::unanswered;
-use crate::judged::{Verdict, told};
 use crate::session::{Machine, Session};
 use crate::slot::Slot;
 use crate::status::{DONE, MEMORY};
+use crate::verdict::{Verdict, told};
 use auditor::{TranscriptEnd, end_of_bytes};
 use rule_engine::Net;
-use rule_machine::{RuleSet, Want};
-use rules_api::Rules;
+use rule_machine::{RuleSet, Rules, Want};
 use run_session::Run;
 use std::alloc::Global;
 use step_log::{MAX_ENTRIES, Recorder};

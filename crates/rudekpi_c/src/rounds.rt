@@ -1,7 +1,7 @@
 //! How many rounds are complete, and how many can still come. Asking makes no entry.
 
 ghost use Rattle.std.specs.Prelude.{◌≡◌, IfSome, OnErr, OnOk, List, Some};
-ghost use Rattle.charge_laws.specs.ChargeWords.{IsUndisturbed};
+ghost use Rattle.machine_laws.specs.ChargeWords.{IsUndisturbed};
 ghost use Rattle.round_laws.specs.RoundCounts.{rounds_of};
 ghost use Rattle.round_laws.specs.Rounds.{rounds_in};
 ghost use Rattle.rule_machine.specs.HsuHuang.{hsu_huang};
@@ -20,8 +20,7 @@ use crate::slot::Slot;
 use crate::status::{DONE, MEMORY, NO_SESSION, NOT_COUNTED};
 use round_laws::{hsu_huang_rounds_are_few, manne_rounds_are_few};
 use rule_engine::NodeBound;
-use rule_machine::Want;
-use rules_api::Rules;
+use rule_machine::{Rules, Want};
 use rules_hsu_huang::HsuHuang;
 use rules_manne::Manne;
 use run_session::Run;

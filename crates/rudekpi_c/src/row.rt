@@ -4,7 +4,7 @@ ghost use Rattle.std.specs.Prelude.{◌≡◌, ◌≤◌, ◌++◌, length, map,
 ghost use Rattle.rudekpi_c.specs.declared.row.Row.{Row};
 ghost use Rattle.rudekpi_c.specs.ReplyNumbers.{move_row, enabled_row, pair_row, rule_number};
 
-use crate::told::number_told;
+use crate::call_result::number_told;
 use rule_machine::{Act, Edge, Moved, Node};
 
 /// One row of an answer.

@@ -8,12 +8,12 @@ ghost use Rattle.rule_machine.specs.declared.event.Event.{Event};
 ghost use Rattle.rule_machine.specs.declared.event.Event.TheVariants.{Link, Unlink, Point, Flag, Join, Leave};
 ghost use Rattle.script_text.specs.declared.command.Command.TheVariants.{Tell};
 ghost use Rattle.script_text.specs.Command.{IsCommand};
-ghost use Rattle.silent_cost.specs.FromSilence.{BoundsMovesAfter};
+ghost use Rattle.move_bounds.specs.FromSilence.{BoundsMovesAfter};
 ghost use Rattle.rudekpi_c.specs.CommandCalls.{optional_name};
 ghost use Rattle.rudekpi_c.specs.Session.{stands, rules_of};
 ghost use Rattle.rudekpi_c.specs.SilentCosts.{silent_cost_at, IsSilentAt, PaysFor, AnswersSilentCost};
 
-use crate::asked;
+use crate::request;
 use crate::session::{Machine, Session};
 use crate::slot::Slot;
 use crate::status::{BAD_ARGUMENT, DONE, NO_SESSION, NOT_SILENT};
@@ -81,7 +81,7 @@ pub extern "C" fn rudekpi_silent_cost_of_link(
     ensures answers { AnswersSilentCost (Link a b) result cost.new slot.old.handle.value }
     ensures kept { slot.new.handle.value ≡ slot.old.handle.value }
 {
-    silent_cost(alloc, slot, asked::link(a, b), cost)
+    silent_cost(alloc, slot, request::link(a, b), cost)
 }
 
 /// Writes the cost of unlinking two nodes of a silent network.
@@ -96,7 +96,7 @@ pub extern "C" fn rudekpi_silent_cost_of_unlink(
     ensures answers { AnswersSilentCost (Unlink a b) result cost.new slot.old.handle.value }
     ensures kept { slot.new.handle.value ≡ slot.old.handle.value }
 {
-    silent_cost(alloc, slot, asked::unlink(a, b), cost)
+    silent_cost(alloc, slot, request::unlink(a, b), cost)
 }
 
 /// Writes the cost of a node's joining a silent network.
@@ -110,7 +110,7 @@ pub extern "C" fn rudekpi_silent_cost_of_join(
     ensures answers { AnswersSilentCost (Join node) result cost.new slot.old.handle.value }
     ensures kept { slot.new.handle.value ≡ slot.old.handle.value }
 {
-    silent_cost(alloc, slot, asked::join(node), cost)
+    silent_cost(alloc, slot, request::join(node), cost)
 }
 
 /// Writes the cost of a node's leaving a silent network.
@@ -124,7 +124,7 @@ pub extern "C" fn rudekpi_silent_cost_of_leave(
     ensures answers { AnswersSilentCost (Leave node) result cost.new slot.old.handle.value }
     ensures kept { slot.new.handle.value ≡ slot.old.handle.value }
 {
-    silent_cost(alloc, slot, asked::leave(node), cost)
+    silent_cost(alloc, slot, request::leave(node), cost)
 }
 
 /// Writes the cost of writing a node's pointer in a silent network; the target 0 is null.
@@ -139,7 +139,7 @@ pub extern "C" fn rudekpi_silent_cost_of_point(
     ensures answers { AnswersSilentCost (Point node (optional_name target)) result cost.new slot.old.handle.value }
     ensures kept { slot.new.handle.value ≡ slot.old.handle.value }
 {
-    silent_cost(alloc, slot, asked::point(node, target), cost)
+    silent_cost(alloc, slot, request::point(node, target), cost)
 }
 
 /// Writes the cost of writing a node's flag in a silent network.
@@ -154,5 +154,5 @@ pub extern "C" fn rudekpi_silent_cost_of_flag(
     ensures answers { AnswersSilentCost (Flag node value) result cost.new slot.old.handle.value }
     ensures kept { slot.new.handle.value ≡ slot.old.handle.value }
 {
-    silent_cost(alloc, slot, asked::flag(node, value), cost)
+    silent_cost(alloc, slot, request::flag(node, value), cost)
 }

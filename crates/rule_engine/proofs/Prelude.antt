@@ -18,11 +18,11 @@ pub use Rattle.std.specs.List.{list_any, AllByRecursion, cons_option, range_with
 pub use Rattle.std.specs.List.Sorted.{IsPermutation, IsStrictlyIncreasing, IsNonDecreasing, IsNonDecreasingBy}
 pub use Rattle.std.specs.Option.{option_or}
 pub use Rattle.std.specs.declared.alloc.AllocError.{AllocError}
-pub use Rattle.charge_laws.proofs.Laws.{beginning_is_within}
-pub use Rattle.charge_laws.proofs.ListCounts.{IsIn, sum_add}
-pub use Rattle.charge_laws.proofs.Members.{in_names}
-pub use Rattle.charge_laws.proofs.Runs.{answer_within}
-pub use Rattle.charge_laws.specs.ChargeWords.{IsCharged, charge_bound}
+pub use Rattle.machine_laws.proofs.Laws.{beginning_is_within}
+pub use Rattle.machine_laws.proofs.ListCounts.{IsIn, sum_add}
+pub use Rattle.machine_laws.proofs.Members.{in_names}
+pub use Rattle.machine_laws.proofs.ChargesOfRuns.{answer_within}
+pub use Rattle.machine_laws.specs.ChargeWords.{IsCharged, charge_bound}
 pub use Rattle.containment_laws.proofs.AtRest.{rest_is, rest_from}
 pub use Rattle.containment_laws.proofs.Containment.{disturbed_rests}
 pub use Rattle.containment_laws.proofs.IdleNodes.{at_rest_idle}
@@ -49,8 +49,8 @@ pub use Rattle.net_state.proofs.Rounds.{round_linked, round_unlinked}
 pub use Rattle.net_state.specs.StateViews.{without_place, StateView}
 pub use Rattle.net_state.specs.declared.change.Change.{Change}
 pub use Rattle.net_state.specs.declared.change.Change.TheVariants.{Pointed, Flagged}
-pub use Rattle.node_bound.proofs.SmallerBound.{smaller_bounds}
-pub use Rattle.node_bound.specs.MovesLeft.{BoundsMoves}
+pub use Rattle.move_bounds.proofs.SmallerBound.{smaller_bounds}
+pub use Rattle.move_bounds.specs.MovesLeft.{BoundsMoves}
 pub use Rattle.rule_machine.specs.Answer.{Answers, spent_after, AnswersBy}
 pub use Rattle.rule_machine.specs.Disturbance.{after_link, after_join, after_point, after_flag}
 pub use Rattle.rule_machine.specs.Least.{outcome_of, move_in, item_of, least_moves, outcome_at, outcome_by, reply_of, state_after, replies_of, reply_by, accepted_reply}
@@ -72,9 +72,9 @@ pub use Rattle.rule_machine.specs.declared.reply.Reply.{Reply}
 pub use Rattle.rule_machine.specs.declared.reply.Reply.TheVariants.{Refused, Moves, Accepted, Pairs, Counts}
 pub use Rattle.rule_machine.specs.declared.verdict.Outcome.{Outcome}
 pub use Rattle.rule_machine.specs.declared.verdict.Verdict.{Verdict}
-pub use Rattle.rules_api.specs.ChargeInputs.{ends_open}
-pub use Rattle.rules_api.specs.LocalViews.{asks_for, AgreesLocally, reaches, is_reached, reaches_beside}
-pub use Rattle.rules_api.specs.Target.{SameAt}
+pub use Rattle.rule_machine.specs.ChargeInputs.{ends_open}
+pub use Rattle.rule_machine.specs.LocalViews.{asks_for, AgreesLocally, reaches, is_reached, reaches_beside}
+pub use Rattle.rule_machine.specs.Target.{SameAt}
 pub use Rattle.suitor_index.specs.Tallies.{IsIndexed}
 pub use Rattle.rule_engine.specs.ChoiceMoves.{verdicts_from, verdicts_of, verdict_moves, moves_by, AreLeast, refused_by, verdicts_refusal, verdict_of, size_refusal, IsToldOf}
 pub use Rattle.rule_engine.specs.Costs.{disturbs, may_disturb}

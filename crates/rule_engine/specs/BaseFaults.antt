@@ -4,7 +4,7 @@ use Rattle.std.specs.List.{list_any}
 use Rattle.rule_machine.specs.declared.base.Base.{Base}
 use Rattle.rule_machine.specs.State.{State, IsState, flag}
 use Rattle.rule_machine.specs.RuleTable.{RuleTable}
-use Rattle.charge_laws.specs.ChargeWords.{charge_bound}
+use Rattle.machine_laws.specs.ChargeWords.{charge_bound}
 use Rattle.net_state.specs.BaseLines.{HasLines, NoStateHas}
 use Rattle.rule_engine.specs.declared.base_fault.BaseFault.{BaseFault}
 use Rattle.rule_engine.specs.declared.base_fault.BaseFault.TheVariants.{TooManyNames, TooManyEdges, NotAState, HasFlags, AboveBound, Memory}

@@ -8,7 +8,7 @@ use Rattle.rule_machine.specs.RuleTable.{RuleTable}
 use Rattle.rule_machine.specs.Refuse.{refusal_of}
 use Rattle.rule_machine.specs.Least.{reply_of}
 use Rattle.rule_machine.specs.Run.{Moment, moment_after}
-use Rattle.charge_laws.specs.ChargeWords.{IsWithinBound}
+use Rattle.machine_laws.specs.ChargeWords.{IsWithinBound}
 use Rattle.net_state.specs.StateViews.{StateView}
 use Rattle.rule_engine.specs.PreparedEvents.{HasRoomTo}
 

@@ -5,7 +5,7 @@ use Rattle.enabled_set.specs.Members.{is_in}
 use Rattle.rule_machine.specs.Network.{linked}
 use Rattle.rule_machine.specs.State.{State, pointer, points, is_at}
 use Rattle.rule_machine.specs.RuleTable.{RuleTable}
-use Rattle.rules_api.specs.LocalViews.{asks_for, reaches_beside}
+use Rattle.rule_machine.specs.LocalViews.{asks_for, reaches_beside}
 use Rattle.rule_engine.specs.EngineStates.{is_enabled_at}
 
 -- whether w is a neighbour of v and points at v

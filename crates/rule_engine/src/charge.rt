@@ -1,19 +1,18 @@
 //! The charge of a state, and the number of moves spent.
 
 ghost use Rattle.std.specs.Prelude.{◌≡◌, ◌≤◌, count_by, length, sum_by};
-ghost use Rattle.charge_laws.specs.ChargeWords.{charge_bound};
+ghost use Rattle.machine_laws.specs.ChargeWords.{charge_bound};
 ghost use Rattle.rule_machine.specs.Answer.{spent_after};
 ghost use Rattle.rule_machine.specs.Network.{names, edge_list};
 ghost use Rattle.rule_machine.specs.Stable.{mutual_pairs};
-ghost use Rattle.rules_api.specs.ChargeInputs.{ends_open};
+ghost use Rattle.rule_machine.specs.ChargeInputs.{ends_open};
 ghost use Rattle.rule_machine.specs.State.{IsState};
 ghost use Rattle.net_totals.specs.Contributions.{node_part};
 
 use crate::Derived;
 use graph_store::{EdgeStore, MAX_EDGES};
 use net_state::{NetState, Observer};
-use rule_machine::{MAX_NAME, Reply};
-use rules_api::Rules;
+use rule_machine::{MAX_NAME, Reply, Rules};
 
 #[derive(Clone, Copy)]
 pub(crate) struct Totals {

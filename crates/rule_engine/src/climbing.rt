@@ -5,11 +5,10 @@ ghost use Rattle.rule_machine.specs.Refuse.{items_refusal};
 ghost use Rattle.rule_engine.specs.ChoiceMoves.{moves_by};
 ghost use Rattle.rule_engine.specs.Marks.{Ascend};
 
+use crate::collected_moves::CollectedMoves;
 use crate::guard::outcome;
-use crate::moves::CollectedMoves;
 use crate::taking::accepted;
-use rule_machine::{Item, Refusal};
-use rules_api::Rules;
+use rule_machine::{Item, Refusal, Rules};
 use suitor_index::IndexedNet;
 
 /// Whether each item names a higher node than the item before.

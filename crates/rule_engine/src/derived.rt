@@ -6,7 +6,7 @@ use crate::refresh::refresh;
 use enabled_set::EnabledSet;
 use net_state::{Change, NetState, Observer};
 use net_totals::Contributions;
-use rules_api::Rules;
+use rule_machine::Rules;
 use suitor_index::{IndexedNet, Suitors};
 
 /// The counts of suitors, the contributions to the totals, and the enabled nodes.

@@ -6,8 +6,7 @@ ghost use Rattle.rule_engine.specs.EventReplies.{stored_reply};
 ghost use Rattle.rule_engine.specs.FaultRefusals.{refused_as, edit_reply};
 
 use graph_store::{EdgeStore, GraphFault};
-use rule_machine::{Node, Refusal, Reply, Want};
-use rules_api::Rules;
+use rule_machine::{Node, Refusal, Reply, Rules, Want};
 
 pub(crate) fn refusal_of(fault: GraphFault) -> Option<Refusal>
     ensures { result ≡ refused_as fault }

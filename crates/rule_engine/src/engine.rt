@@ -24,24 +24,23 @@ ghost use Rattle.rule_engine.specs.ChoiceMoves.{verdict_of, verdicts_of};
 
 use crate::Derived;
 use crate::charge::totals_of;
-use crate::cost::cost_of;
+use crate::collected_moves::{CollectedMoves, step_reply};
 use crate::edits::{
     put, put_edit, refusal_of, refused_flag, refused_join, refused_leave, refused_point,
     refused_unlink,
 };
 use crate::guard::{outcome, put_reply_to_one, rule_enabled, take_items};
 use crate::listing::{enabled_rules, mutual_edges};
-use crate::moves::{CollectedMoves, step_reply};
 use crate::reach::{reach_of, would_reach};
 use crate::taking::{refused_size, take_verdicts};
+use crate::touched_nodes::cost_of;
 use enabled_set::{EnabledSet, Marks};
 use graph_store::{EdgeStore, GraphFault};
 use net_state::{NetState, join, leave, link_reserved, make_moves, set_flag, set_pointer, unlink};
 use registers::Registers;
 use rule_machine::{
-    Act, Choice, Counts, Event, Listing, Moved, Node, Refusal, Reply, Verdict, Want,
+    Act, Choice, Counts, Event, Listing, Moved, Node, Refusal, Reply, Rules, Verdict, Want,
 };
-use rules_api::Rules;
 use std::alloc::{AllocError, Global};
 use std::marker::Model;
 use suitor_index::IndexedNet;

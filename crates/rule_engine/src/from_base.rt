@@ -2,7 +2,7 @@
 
 ghost use Rattle.std.specs.Prelude.{◌≡◌, ◌≤◌, ◌+◌, ◌↔◌, IfErr, IfOk, IsTrue, OnOk, false, length, nat_le, true};
 ghost use Rattle.std.specs.List.{list_any};
-ghost use Rattle.charge_laws.specs.ChargeWords.{charge_bound};
+ghost use Rattle.machine_laws.specs.ChargeWords.{charge_bound};
 ghost use Rattle.rule_machine.specs.Base.{IsBaseMoment};
 ghost use Rattle.rule_machine.specs.State.{IsState};
 ghost use Rattle.rule_engine.specs.BaseFaults.{ExplainsBaseFault, IsBaseOfNetwork, IsStateOf};
@@ -12,8 +12,7 @@ use crate::engine::Engine;
 use crate::{BaseFault, Net};
 use graph_store::MAX_EDGES;
 use net_state::{NetState, edges_ascend, has_flag, names_rise};
-use rule_machine::{Base, MAX_NAME, NodeRecord};
-use rules_api::Rules;
+use rule_machine::{Base, MAX_NAME, NodeRecord, Rules};
 use std::alloc::Global;
 
 /// The state that has the lines of a base. `TooManyNames`, `TooManyEdges`, `NotAState` and `Memory`.

@@ -8,8 +8,7 @@ use crate::guard::rule_enabled;
 use enabled_set::EnabledSet;
 use net_state::{NetState, Observer};
 use net_totals::Contributions;
-use rule_machine::{Node, Want};
-use rules_api::Rules;
+use rule_machine::{Node, Rules, Want};
 use std::alloc::Global;
 use suitor_index::{IndexedNet, Suitors};
 

@@ -8,11 +8,10 @@ ghost use Rattle.rule_engine.specs.EngineStates.{guard_at};
 ghost use Rattle.rule_engine.specs.ChoiceMoves.{IsToldOf, moves_by};
 
 use crate::climbing::{ascend, take_ascending};
-use crate::moves::CollectedMoves;
+use crate::collected_moves::CollectedMoves;
 use crate::taking::{accepted, take_outcome};
 use enabled_set::Marks;
-use rule_machine::{Act, Item, Listing, Moved, Node, Outcome, Refusal, Reply};
-use rules_api::Rules;
+use rule_machine::{Act, Item, Listing, Moved, Node, Outcome, Refusal, Reply, Rules};
 use suitor_index::IndexedNet;
 
 pub(crate) fn rule_at<R: Rules>(state: &IndexedNet<'_, R>, v: Node) -> Option<Act>

@@ -2,10 +2,10 @@
 
 ghost use Rattle.std.specs.Prelude.{◌≡◌, []};
 ghost use Rattle.rule_machine.specs.RuleTable.{enabled_names};
-ghost use Rattle.node_bound.specs.MovesLeft.{smaller_bound, moves_left, BoundsMoves};
+ghost use Rattle.move_bounds.specs.MovesLeft.{smaller_bound, moves_left, BoundsMoves};
 
 use crate::Net;
-use node_bound::NodeBound;
+use move_bounds::NodeBound;
 
 fn smaller(charge: u32, most: Option<u32>) -> u32
     ensures { result ≡ smaller_bound charge most }

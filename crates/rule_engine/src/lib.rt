@@ -21,7 +21,7 @@
 mod base_fault;
 mod charge;
 mod climbing;
-mod cost;
+mod collected_moves;
 mod derived;
 mod edits;
 mod engine;
@@ -31,22 +31,20 @@ mod guard;
 mod left;
 mod listing;
 mod look;
-mod moves;
 mod net;
 mod reach;
 mod refresh;
 mod silence;
 mod taking;
+mod touched_nodes;
 
 pub use base_fault::BaseFault;
 pub(crate) use derived::Derived;
 pub use enabled_set::EnabledSet;
 pub use graph_store::{Edge, GraphFault, Node};
+pub use move_bounds::{NodeBound, SilentCost};
 pub use net::Net;
-pub use node_bound::NodeBound;
 pub use rule_machine::{
-    Act, Base, Choice, Counts, Event, Item, Listing, Moved, NodeRecord, Outcome, Refusal, Reply,
-    RuleSet, Verdict, Want,
+    Act, BadTarget, Base, Choice, Counts, Event, Item, Listing, Local, Moved, NodeRecord, Outcome,
+    Refusal, Reply, RuleSet, Rules, Verdict, Want,
 };
-pub use rules_api::{BadTarget, Local, Rules};
-pub use silent_cost::SilentCost;

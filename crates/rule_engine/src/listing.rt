@@ -9,8 +9,7 @@ use crate::Derived;
 use crate::guard::rule_enabled;
 use net_state::{NetState, Observer};
 use registers::Registers;
-use rule_machine::{Act, Edge, Node, Want};
-use rules_api::Rules;
+use rule_machine::{Act, Edge, Node, Rules, Want};
 use std::alloc::Global;
 use suitor_index::IndexedNet;
 

@@ -7,8 +7,7 @@ ghost use Rattle.rule_engine.specs.GuardRefresh.{is_null_target, is_suitor, may_
 
 use crate::guard::rule_at;
 use enabled_set::EnabledSet;
-use rule_machine::Node;
-use rules_api::{Local, Rules, asks_for};
+use rule_machine::{Local, Node, Rules, asks_for};
 use suitor_index::IndexedNet;
 
 pub(crate) fn look_at<R: Rules>(state: &IndexedNet<'_, R>, enabled: &mut EnabledSet, v: Node)

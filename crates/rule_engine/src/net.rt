@@ -3,7 +3,7 @@
 ghost use Rattle.std.specs.Prelude.{◌≡◌, ◌<◌, ◌≤◌, ◌+◌, ◌*◌, ◌↔◌, ℕ, List, [], IfOk, IfErr, IfSome, OnOk, OnErr, IsTrue, None, false, length, zip, slice_get};
 ghost use Rattle.enabled_set.specs.Members.{members};
 ghost use Rattle.graph_store.specs.Fault.{nodes_fault, ExplainsGraphFault};
-ghost use Rattle.charge_laws.specs.ChargeWords.{charge_bound};
+ghost use Rattle.machine_laws.specs.ChargeWords.{charge_bound};
 ghost use Rattle.rule_machine.specs.Base.{base_of};
 ghost use Rattle.rule_machine.specs.Network.{node_count, edge_count};
 ghost use Rattle.rule_machine.specs.State.{IsState, flag};
@@ -30,8 +30,7 @@ use enabled_set::EnabledSet;
 use graph_store::{EdgeStore, GraphFault};
 use net_state::NetState;
 use registers::Registers;
-use rule_machine::{Act, Base, Choice, Event, Listing, Node, Reply, Verdict, Want};
-use rules_api::Rules;
+use rule_machine::{Act, Base, Choice, Event, Listing, Node, Reply, Rules, Verdict, Want};
 use std::alloc::Global;
 use std::marker::Model;
 

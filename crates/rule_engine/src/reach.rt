@@ -4,9 +4,8 @@ ghost use Rattle.std.specs.Prelude.{◌≡◌, ◌≤◌, IfOk, length};
 ghost use Rattle.containment_laws.specs.Reach.{reach_size};
 ghost use Rattle.rule_engine.specs.DisturbanceReach.{would_reach, reach_of};
 
-use crate::cost::is_disturbance;
-use rule_machine::{Event, Node, Want};
-use rules_api::Rules;
+use crate::touched_nodes::is_disturbance;
+use rule_machine::{Event, Node, Rules, Want};
 use std::alloc::Global;
 use suitor_index::IndexedNet;
 

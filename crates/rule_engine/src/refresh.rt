@@ -10,8 +10,7 @@ ghost use Rattle.rule_engine.specs.GuardRefresh.{IsRefreshed};
 use crate::look::{look_after_write, look_at, look_at_target};
 use enabled_set::EnabledSet;
 use net_state::Change;
-use rule_machine::Node;
-use rules_api::Rules;
+use rule_machine::{Node, Rules};
 use suitor_index::IndexedNet;
 
 fn pointed<R: Rules>(

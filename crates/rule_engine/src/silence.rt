@@ -3,12 +3,12 @@
 ghost use Rattle.std.specs.Prelude.{◌≡◌, ◌≤◌, ◌+◌, ◌↔◌, [], IfSome, IsSome};
 ghost use Rattle.rule_machine.specs.RuleTable.{enabled_names};
 ghost use Rattle.rule_engine.specs.Costs.{disturbance_cost};
-ghost use Rattle.silent_cost.specs.FromSilence.{BoundsMovesAfter};
+ghost use Rattle.move_bounds.specs.FromSilence.{BoundsMovesAfter};
 
 use crate::Net;
-use crate::cost::is_disturbance;
+use crate::touched_nodes::is_disturbance;
+use move_bounds::SilentCost;
 use rule_machine::Event;
-use silent_cost::SilentCost;
 use suitor_index::IndexedNet;
 
 #[tactic(auto, using(crate::proofs::EventCosts::not_refused))]

@@ -6,7 +6,7 @@ ghost use Rattle.rule_machine.specs.Least.{move_in};
 ghost use Rattle.rule_engine.specs.ChoiceMoves.{verdict_moves, refused_by, size_refusal, verdicts_refusal};
 ghost use Rattle.rule_engine.specs.Marks.{HasPlace};
 
-use crate::moves::CollectedMoves;
+use crate::collected_moves::CollectedMoves;
 use enabled_set::Marks;
 use rule_machine::{Moved, Node, Outcome, Refusal, Verdict};
 

@@ -14,3 +14,9 @@ pub mod ListingItems
 pub mod Run
 pub mod Tables
 pub mod Base
+pub mod LocalViews
+pub mod Target
+pub mod ChargeInputs
+pub mod ChargeLaws
+pub mod Table
+pub mod RulesLaws

@@ -1,9 +1,9 @@
 -- The targets that a node's rule allows.
-use Rattle.charge_laws.proofs.Prelude.{◌≡◌, ℕ, Bool, true, false, cond, not, ◌&&◌, ◌||◌, Option, None, Some, is_some, is_none, IsSome, IsTrue, refl, ap, ◌∙◌, subst, and_parts, Marry, Seduce, Abandon, linked, State, IsState, pointer, suits, has_suitor, rule_at, least_target, is_open, hsu_huang, hsu_huang_opens, near_found, near_fails}
+use Rattle.machine_laws.proofs.ChargePrelude.{◌≡◌, ℕ, Bool, true, false, cond, not, ◌&&◌, ◌||◌, Option, None, Some, is_some, is_none, IsSome, IsTrue, refl, ap, ◌∙◌, subst, and_parts, Marry, Seduce, Abandon, linked, State, IsState, pointer, suits, has_suitor, rule_at, least_target, is_open, hsu_huang, hsu_huang_opens, near_found, near_fails}
 use Rattle.std.specs.Option.{option_or, option_and_then}
 use Rattle.rule_machine.specs.State.{first_suitor}
 use Rattle.rule_machine.specs.RuleTable.{first_open}
-use Rattle.rules_api.specs.Target.{target_by, target_at}
+use Rattle.rule_machine.specs.Target.{target_by, target_at}
 use Rattle.machine_laws.proofs.Neighbours.{near_agree}
 use Rattle.rules_hsu_huang.specs.Rule.{hsu_huang_rule_by, hsu_huang_rule_cases, is_taken, has_open}
 

@@ -4,9 +4,9 @@ use Rattle.std.proofs.lemmas.List.Sums.{sum_by-cons}
 use Rattle.rule_machine.specs.Network.{names, edge_list}
 use Rattle.rule_machine.specs.State.{State, IsState, pointer, holds_at, is_unanswered}
 use Rattle.rule_machine.specs.Charge.{hsu_huang_charge}
-use Rattle.charge_laws.specs.ClosedByPointers.{hsu_huang_closes}
-use Rattle.rules_api.specs.ChargeInputs.{ends_open, IsSameChargeInput}
-use Rattle.charge_laws.proofs.ClosedByPointers.{hsu_huang_split}
+use Rattle.machine_laws.specs.ClosedByPointers.{hsu_huang_closes}
+use Rattle.rule_machine.specs.ChargeInputs.{ends_open, IsSameChargeInput}
+use Rattle.machine_laws.proofs.ClosedByPointers.{hsu_huang_split}
 
 abbrev pub no_flag_charge : State → ℕ → ℕ
 no_flag_charge s v = 0

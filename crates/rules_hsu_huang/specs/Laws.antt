@@ -1,13 +1,13 @@
 -- The laws of the rule set, in one record.
 use Rattle.std.proofs.Common.{true, false, refl}
 use Rattle.rule_machine.specs.HsuHuang.{hsu_huang}
-use Rattle.charge_laws.specs.ClosedByPointers.{hsu_huang_closes}
-use Rattle.charge_laws.specs.Costs.{hsu_huang_cost}
-use Rattle.rules_api.specs.RulesLaws.{RulesLaws}
-use Rattle.charge_laws.proofs.Asks.{hsu_huang_asks}
-use Rattle.charge_laws.proofs.CostsOfRuns.{hsu_huang_disturbed}
-use Rattle.charge_laws.proofs.Laws.{hsu_huang_charged}
-use Rattle.charge_laws.proofs.Tables.{hsu_huang_table, hsu_huang_flagless}
+use Rattle.machine_laws.specs.ClosedByPointers.{hsu_huang_closes}
+use Rattle.machine_laws.specs.Costs.{hsu_huang_cost}
+use Rattle.rule_machine.specs.RulesLaws.{RulesLaws}
+use Rattle.machine_laws.proofs.Asks.{hsu_huang_asks}
+use Rattle.machine_laws.proofs.CostsOfRuns.{hsu_huang_disturbed}
+use Rattle.machine_laws.proofs.Laws.{hsu_huang_charged}
+use Rattle.machine_laws.proofs.Tables.{hsu_huang_table, hsu_huang_flagless}
 use Rattle.rules_hsu_huang.specs.Charge.{no_flag_charge, charge_without_nodes, hsu_huang_weight_is_small, hsu_huang_null_closes, hsu_huang_closes_alike}
 use Rattle.rules_hsu_huang.specs.Rule.{hsu_huang_guard_is_view, hsu_huang_guard_is_local, hsu_huang_one_rule_at}
 use Rattle.rules_hsu_huang.specs.Quiet.{hsu_huang_stable_from_quiet, hsu_huang_quiet_from_stable}

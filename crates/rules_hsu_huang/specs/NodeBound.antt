@@ -5,7 +5,7 @@ use Rattle.rule_machine.specs.HsuHuang.{hsu_huang}
 use Rattle.rule_machine.specs.Network.{node_count}
 use Rattle.dense_laws.specs.Bound.{dense_bound}
 use Rattle.dense_laws.proofs.Bound.{within_bound}
-use Rattle.node_bound.specs.MovesLeft.{BoundsByNodes, BoundsMoves}
+use Rattle.move_bounds.specs.MovesLeft.{BoundsByNodes, BoundsMoves}
 
 pub bounded_by_nodes : BoundsByNodes hsu_huang (λ n. Some (dense_bound n))
 bounded_by_nodes s spent good bound is =

@@ -6,8 +6,8 @@ use Rattle.rule_machine.specs.State.{State, IsState, pointer, points, holds_at, 
 use Rattle.rule_machine.specs.RuleTable.{rule_at}
 use Rattle.rule_machine.specs.HsuHuang.{hsu_huang, hsu_huang_opens}
 use Rattle.rule_machine.specs.RuleTable.{first_open}
-use Rattle.rules_api.specs.Target.{SameAt}
-use Rattle.rules_api.specs.LocalViews.{AgreesLocally}
+use Rattle.rule_machine.specs.Target.{SameAt}
+use Rattle.rule_machine.specs.LocalViews.{AgreesLocally}
 use Rattle.machine_laws.proofs.LocalAgreement.{same_find, same_pointer, same_suitor}
 
 -- the rule of a node, from its pointer, whether it has a suitor, whether it has an open neighbour, and the

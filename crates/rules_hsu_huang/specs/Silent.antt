@@ -3,10 +3,10 @@ use Rattle.std.proofs.Common.{ℕ, arith}
 use Rattle.rule_machine.specs.declared.event.Event.{Event}
 use Rattle.rule_machine.specs.State.{State}
 use Rattle.rule_machine.specs.HsuHuang.{hsu_huang}
-use Rattle.charge_laws.specs.Costs.{hsu_huang_cost}
+use Rattle.machine_laws.specs.Costs.{hsu_huang_cost}
 use Rattle.silence_laws.specs.Costs.{silent_cost}
 use Rattle.silence_laws.proofs.CostComparison.{silent_cost_is_less}
-use Rattle.silent_cost.specs.FromSilence.{ExceedsAtMost}
+use Rattle.move_bounds.specs.FromSilence.{ExceedsAtMost}
 
 abbrev pub no_excess : State → Event → ℕ
 no_excess s event = 0

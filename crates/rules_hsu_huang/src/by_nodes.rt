@@ -1,7 +1,7 @@
 //! The bound on moves that depends on the number of nodes alone.
 
 use crate::HsuHuang;
-use node_bound::NodeBound;
+use move_bounds::NodeBound;
 
 impl NodeBound for HsuHuang {
     ghost use Rattle.std.specs.Prelude.{Some};

@@ -4,11 +4,10 @@ ghost use Rattle.std.specs.Prelude.{◌≡◌, ◌-◌, ◌≤◌, cond, IsTrue}
 ghost use Rattle.rule_machine.specs.declared.event.Event.TheVariants.{Unlink, Leave};
 ghost use Rattle.rule_machine.specs.Network.{present};
 ghost use Rattle.rule_machine.specs.State.{IsState, points, pointer, has_suitor, is_unanswered};
-ghost use Rattle.charge_laws.specs.Degrees.{degree};
-ghost use Rattle.charge_laws.specs.Costs.{hsu_huang_cost, hsu_huang_point_cost};
+ghost use Rattle.machine_laws.specs.Degrees.{degree};
+ghost use Rattle.machine_laws.specs.Costs.{hsu_huang_cost, hsu_huang_point_cost};
 
-use rule_machine::Node;
-use rules_api::{Touched, points_at};
+use rule_machine::{Node, Touched, points_at};
 
 /// How many edges `w` has besides the edge to `v` if `v` points at `w`, else 0.
 fn other_edges<T: Touched>(touched: &T, v: Node, w: Node) -> u32
@@ -32,7 +31,7 @@ pub(crate) fn unlink_cost<T: Touched>(touched: &T, a: Node, b: Node) -> u32
     2 * (other_edges(touched, a, b) + other_edges(touched, b, a))
 }
 
-#[tactic(auto, using(charge_laws::proofs::PresentNodes::target_present))]
+#[tactic(auto, using(machine_laws::proofs::PresentNodes::target_present))]
 pub(crate) fn point_cost<T: Touched>(touched: &T, v: Node) -> u32
     requires state { IsState (T.state touched.now) }
     requires present { IsTrue (present (T.state touched.now).network v) }
@@ -46,7 +45,7 @@ pub(crate) fn point_cost<T: Touched>(touched: &T, v: Node) -> u32
     }
 }
 
-#[tactic(auto, using(charge_laws::proofs::PresentNodes::target_present))]
+#[tactic(auto, using(machine_laws::proofs::PresentNodes::target_present))]
 pub(crate) fn leave_cost<T: Touched>(touched: &T, v: Node) -> u32
     requires state { IsState (T.state touched.now) }
     requires present { IsTrue (present (T.state touched.now).network v) }

@@ -1,8 +1,7 @@
 //! The rules of Hsu and Huang.
 
 use crate::cost::{leave_cost, point_cost, unlink_cost};
-use rule_machine::{Act, Event, Node};
-use rules_api::{BadTarget, ChargeInput, Local, Rules, Touched};
+use rule_machine::{Act, BadTarget, ChargeInput, Event, Local, Node, Rules, Touched};
 
 /// Hsu and Huang's algorithm of 1992: one node moves at a time, and no flags are used.
 #[derive(Clone, Copy, Debug, PartialEq, Eq)]
@@ -10,8 +9,8 @@ pub struct HsuHuang;
 
 impl Rules for HsuHuang {
     ghost use Rattle.std.specs.Prelude.{true, false};
-    ghost use Rattle.charge_laws.specs.ClosedByPointers.{hsu_huang_closes};
-    ghost use Rattle.charge_laws.specs.Costs.{hsu_huang_cost};
+    ghost use Rattle.machine_laws.specs.ClosedByPointers.{hsu_huang_closes};
+    ghost use Rattle.machine_laws.specs.Costs.{hsu_huang_cost};
     ghost use Rattle.rule_machine.specs.HsuHuang.{hsu_huang};
     ghost use Rattle.rules_hsu_huang.specs.Charge.{no_flag_charge};
     ghost use Rattle.rules_hsu_huang.specs.Laws.{hsu_huang_laws};
@@ -88,7 +87,7 @@ impl Rules for HsuHuang {
         0
     }
 
-    #[tactic(auto, using(charge_laws::proofs::PresentNodes::first_present, charge_laws::proofs::PresentNodes::second_present, charge_laws::proofs::PresentNodes::pointer_present, charge_laws::proofs::PresentNodes::leaver_present))]
+    #[tactic(auto, using(machine_laws::proofs::PresentNodes::first_present, machine_laws::proofs::PresentNodes::second_present, machine_laws::proofs::PresentNodes::pointer_present, machine_laws::proofs::PresentNodes::leaver_present))]
     fn cost<T: Touched>(touched: &T, event: &Event) -> u32 {
         match event {
             Event::Link(_, _) => 2,

@@ -1,9 +1,9 @@
 -- The targets that a node's rule allows.
-use Rattle.charge_laws.proofs.Prelude.{◌≡◌, ℕ, Bool, true, false, cond, not, ◌&&◌, ◌||◌, Option, None, Some, is_some, is_none, IsSome, nat_lt, find, IsTrue, refl, sym, ap, ap₂, ◌∙◌, subst, inl, inr, ⊎_elim, ◌⊎◌, and_parts, and_from, cases_Bool, cases_order, ltb-true, not-true, false_from_ne_true, Update, Marry, Seduce, Abandon, linked, neighbours, State, IsState, pointer, flag, is_at, suits, has_suitor, is_settled, rule_at, least_target, manne, may_court, option_cases, near_some, near_found, near_fails, null_unmarried, some_from_is_at, is_at_from_some}
+use Rattle.machine_laws.proofs.ChargePrelude.{◌≡◌, ℕ, Bool, true, false, cond, not, ◌&&◌, ◌||◌, Option, None, Some, is_some, is_none, IsSome, nat_lt, find, IsTrue, refl, sym, ap, ap₂, ◌∙◌, subst, inl, inr, ⊎_elim, ◌⊎◌, and_parts, and_from, cases_Bool, cases_order, ltb-true, not-true, false_from_ne_true, Update, Marry, Seduce, Abandon, linked, neighbours, State, IsState, pointer, flag, is_at, suits, has_suitor, is_settled, rule_at, least_target, manne, may_court, option_cases, near_some, near_found, near_fails, null_unmarried, some_from_is_at, is_at_from_some}
 use Rattle.std.proofs.Common.{lt-ltb}
 use Rattle.std.specs.Option.{option_or, option_and_then}
 use Rattle.rule_machine.specs.State.{first_suitor}
-use Rattle.rules_api.specs.Target.{target_by, target_at}
+use Rattle.rule_machine.specs.Target.{target_by, target_at}
 use Rattle.machine_laws.proofs.Neighbours.{near_none, near_agree}
 use Rattle.machine_laws.proofs.Pointers.{none_is}
 use Rattle.rules_manne.specs.GreatestTarget.{greatest, greatest_none, greatest_some}

@@ -5,12 +5,12 @@ use Rattle.rule_machine.specs.Network.{names, edge_list}
 use Rattle.rule_machine.specs.State.{State, IsState, pointer, flag, is_unanswered, married}
 use Rattle.rule_machine.specs.Charge.{manne_node_charge, manne_charge}
 use Rattle.machine_laws.proofs.Pointers.{married_from, married_some}
-use Rattle.charge_laws.specs.ClosedByPointers.{manne_apart, manne_closes}
+use Rattle.machine_laws.specs.ClosedByPointers.{manne_apart, manne_closes}
 use Rattle.std.proofs.lemmas.Bool.{and_right}
-use Rattle.rules_api.specs.ChargeInputs.{ends_open, IsSameChargeInput, IsChargeInput}
-use Rattle.rules_api.specs.declared.standing.ChargeInput.{ChargeInput}
-use Rattle.charge_laws.proofs.ListCounts.{count_agree}
-use Rattle.charge_laws.proofs.ClosedByPointers.{manne_split}
+use Rattle.rule_machine.specs.ChargeInputs.{ends_open, IsSameChargeInput, IsChargeInput}
+use Rattle.rule_machine.specs.declared.charge_input.ChargeInput.{ChargeInput}
+use Rattle.machine_laws.proofs.ListCounts.{count_agree}
+use Rattle.machine_laws.proofs.ClosedByPointers.{manne_split}
 
 -- computed from the stances and the pointers
 pub charge_is_counted : (s : State) → IsState s → manne_charge s + 2 * count_by (manne_closes s) (names s.network) ≡ 2 * count_by (ends_open false s) (edge_list s.network) + count_by (is_unanswered s) (names s.network) + sum_by (manne_node_charge s) (names s.network)

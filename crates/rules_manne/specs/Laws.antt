@@ -2,13 +2,13 @@
 use Rattle.std.proofs.Common.{true, false, refl}
 use Rattle.rule_machine.specs.Manne.{manne}
 use Rattle.rule_machine.specs.Charge.{manne_node_charge}
-use Rattle.charge_laws.specs.ClosedByPointers.{manne_closes}
-use Rattle.charge_laws.specs.Costs.{manne_cost}
-use Rattle.rules_api.specs.RulesLaws.{RulesLaws}
-use Rattle.charge_laws.proofs.Asks.{manne_asks}
-use Rattle.charge_laws.proofs.CostsOfRuns.{manne_disturbed}
-use Rattle.charge_laws.proofs.Laws.{manne_charged}
-use Rattle.charge_laws.proofs.Tables.{manne_table, manne_flagless}
+use Rattle.machine_laws.specs.ClosedByPointers.{manne_closes}
+use Rattle.machine_laws.specs.Costs.{manne_cost}
+use Rattle.rule_machine.specs.RulesLaws.{RulesLaws}
+use Rattle.machine_laws.proofs.Asks.{manne_asks}
+use Rattle.machine_laws.proofs.CostsOfRuns.{manne_disturbed}
+use Rattle.machine_laws.proofs.Laws.{manne_charged}
+use Rattle.machine_laws.proofs.Tables.{manne_table, manne_flagless}
 use Rattle.rules_manne.specs.Charge.{adds_alike, manne_closes_alike, charge_is_counted, manne_weight_is_small, manne_null_closes}
 use Rattle.rules_manne.specs.Rule.{manne_guard_is_view, manne_guard_is_local, manne_one_rule_at}
 use Rattle.rules_manne.specs.Quiet.{manne_stable_from_quiet, manne_quiet_from_stable}

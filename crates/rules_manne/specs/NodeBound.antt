@@ -2,7 +2,7 @@
 use Rattle.std.proofs.Common.{None}
 use Rattle.std.proofs.lemmas.Option.{none-some}
 use Rattle.rule_machine.specs.Manne.{manne}
-use Rattle.node_bound.specs.MovesLeft.{BoundsByNodes}
+use Rattle.move_bounds.specs.MovesLeft.{BoundsByNodes}
 
 pub unbounded_by_nodes : BoundsByNodes manne (λ n. None)
 unbounded_by_nodes s spent good bound is = absurd (none-some bound is)

@@ -8,8 +8,8 @@ use Rattle.rule_machine.specs.RuleTable.{rule_at}
 use Rattle.rule_machine.specs.Manne.{manne, manne_opens, may_court}
 use Rattle.machine_laws.proofs.Pointers.{pointer_linked}
 use Rattle.std.specs.Bool.{beq}
-use Rattle.rules_api.specs.Target.{SameAt}
-use Rattle.rules_api.specs.LocalViews.{AgreesLocally}
+use Rattle.rule_machine.specs.Target.{SameAt}
+use Rattle.rule_machine.specs.LocalViews.{AgreesLocally}
 use Rattle.machine_laws.proofs.LocalAgreement.{same_find, same_pointer, same_suitor, same_married}
 use Rattle.rules_manne.specs.GreatestTarget.{greatest, greatest_reaches}
 

@@ -3,11 +3,11 @@ use Rattle.std.proofs.Common.{ℕ, ◌+◌, ◌*◌, arith}
 use Rattle.rule_machine.specs.declared.event.Event.{Event}
 use Rattle.rule_machine.specs.State.{State}
 use Rattle.rule_machine.specs.Manne.{manne}
-use Rattle.charge_laws.specs.Costs.{manne_cost}
+use Rattle.machine_laws.specs.Costs.{manne_cost}
 use Rattle.silence_laws.specs.Changes.{most_gained, nodes_gone}
 use Rattle.silence_laws.specs.Costs.{manne_silent_cost}
 use Rattle.silence_laws.proofs.MannePays.{manne_silent_cost_is_less}
-use Rattle.silent_cost.specs.FromSilence.{ExceedsAtMost}
+use Rattle.move_bounds.specs.FromSilence.{ExceedsAtMost}
 
 abbrev pub gained_and_gone : State → Event → ℕ
 gained_and_gone s event = 2 * most_gained s event + nodes_gone event

@@ -1,7 +1,7 @@
 //! No bound on moves that depends on the number of nodes alone is known.
 
 use crate::Manne;
-use node_bound::NodeBound;
+use move_bounds::NodeBound;
 
 impl NodeBound for Manne {
     ghost use Rattle.std.specs.Prelude.{None};

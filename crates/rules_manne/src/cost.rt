@@ -4,10 +4,9 @@ ghost use Rattle.std.specs.Prelude.{◌≡◌, IsTrue};
 ghost use Rattle.rule_machine.specs.declared.event.Event.TheVariants.{Unlink, Flag, Leave};
 ghost use Rattle.rule_machine.specs.Network.{present};
 ghost use Rattle.rule_machine.specs.State.{IsState, pointer, is_unanswered};
-ghost use Rattle.charge_laws.specs.Costs.{manne_cost, manne_point_cost};
+ghost use Rattle.machine_laws.specs.Costs.{manne_cost, manne_point_cost};
 
-use rule_machine::Node;
-use rules_api::{Touched, points_at};
+use rule_machine::{Node, Touched, points_at};
 
 pub(crate) fn unlink_cost<T: Touched>(touched: &T, a: Node, b: Node) -> u32
     requires first { IsTrue (present (T.state touched.now).network a) }
@@ -22,7 +21,7 @@ pub(crate) fn unlink_cost<T: Touched>(touched: &T, a: Node, b: Node) -> u32
     }
 }
 
-#[tactic(auto, using(charge_laws::proofs::PresentNodes::target_present))]
+#[tactic(auto, using(machine_laws::proofs::PresentNodes::target_present))]
 pub(crate) fn point_cost<T: Touched>(touched: &T, v: Node) -> u32
     requires state { IsState (T.state touched.now) }
     requires present { IsTrue (present (T.state touched.now).network v) }
@@ -46,7 +45,7 @@ pub(crate) fn flag_cost<T: Touched>(touched: &T, v: Node, value: bool) -> u32
     }
 }
 
-#[tactic(auto, using(charge_laws::proofs::PresentNodes::target_present))]
+#[tactic(auto, using(machine_laws::proofs::PresentNodes::target_present))]
 pub(crate) fn leave_cost<T: Touched>(touched: &T, v: Node) -> u32
     requires state { IsState (T.state touched.now) }
     requires present { IsTrue (present (T.state touched.now).network v) }

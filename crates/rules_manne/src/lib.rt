@@ -22,7 +22,7 @@
 
 mod by_nodes;
 mod cost;
-mod rules;
+mod manne;
 mod silent;
 
-pub use rules::Manne;
+pub use manne::Manne;

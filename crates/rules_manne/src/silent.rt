@@ -7,8 +7,8 @@ ghost use Rattle.rule_machine.specs.State.{IsState, pointer};
 ghost use Rattle.silence_laws.specs.Costs.{manne_silent_cost, manne_silent_point_cost};
 
 use crate::Manne;
+use move_bounds::{SilentCost, SilentView, link_cost, unlink_cost, unmarried_neighbours};
 use rule_machine::{Event, Node};
-use silent_cost::{SilentCost, SilentView, link_cost, unlink_cost, unmarried_neighbours};
 
 /// The silent cost of writing the pointer of a paired node.
 fn pair_cost<V: SilentView>(view: &V, v: Node, partner: Node, target: Option<Node>) -> u32
@@ -26,7 +26,7 @@ fn pair_cost<V: SilentView>(view: &V, v: Node, partner: Node, target: Option<Nod
     2 * (unmarried_neighbours(view, v) + unmarried_neighbours(view, partner)) + 10
 }
 
-#[tactic(auto, using(charge_laws::proofs::PresentNodes::target_present))]
+#[tactic(auto, using(machine_laws::proofs::PresentNodes::target_present))]
 fn point_cost<V: SilentView>(view: &V, v: Node, target: Option<Node>) -> u32
     requires state { IsState (V.state view.now) }
     requires present { IsTrue (present (V.state view.now).network v) }
@@ -47,7 +47,7 @@ fn flag_cost<V: SilentView>(view: &V, v: Node, value: bool) -> u32
     if view.is_married(v) == value { 0 } else { 1 }
 }
 
-#[tactic(auto, using(charge_laws::proofs::PresentNodes::target_present, machine_laws::proofs::Pointers::null_unmarried))]
+#[tactic(auto, using(machine_laws::proofs::PresentNodes::target_present, machine_laws::proofs::Pointers::null_unmarried))]
 fn leave_cost<V: SilentView>(view: &V, v: Node) -> u32
     requires state { IsState (V.state view.now) }
     requires present { IsTrue (present (V.state view.now).network v) }
@@ -68,7 +68,7 @@ impl SilentCost for Manne {
 
     ghost excess = { gained_and_gone };
 
-    #[tactic(auto, using(silent_cost::specs::Present::lower_present, silent_cost::specs::Present::upper_present, charge_laws::proofs::PresentNodes::first_present, charge_laws::proofs::PresentNodes::second_present, charge_laws::proofs::PresentNodes::pointer_present, charge_laws::proofs::PresentNodes::flagged_present, charge_laws::proofs::PresentNodes::leaver_present))]
+    #[tactic(auto, using(move_bounds::specs::Present::lower_present, move_bounds::specs::Present::upper_present, machine_laws::proofs::PresentNodes::first_present, machine_laws::proofs::PresentNodes::second_present, machine_laws::proofs::PresentNodes::pointer_present, machine_laws::proofs::PresentNodes::flagged_present, machine_laws::proofs::PresentNodes::leaver_present))]
     fn silent_cost<V: SilentView>(view: &V, event: &Event) -> u32 {
         match event {
             Event::Link(a, b) => link_cost(view, *a, *b, 4),

@@ -1,7 +1,7 @@
 -- What the proofs of this crate import from the crates below and from its own definitions.
 pub use Rattle.std.proofs.Common.{◌≡◌, ◌∙◌, Result, Err, IsErrAnd, ap, ℕ, ◌≤◌, List, [], Ok, OnOk, sym, subst, arith, suc, ◌+◌, ◌-◌, ◌<◌, Option, None, Some, inl, inr, refl, true, false, Bool, MatchOption}
 pub use Rattle.std.proofs.lemmas.Result.{err_from_is_err_and}
-pub use Rattle.charge_laws.specs.ChargeWords.{IsCharged}
+pub use Rattle.machine_laws.specs.ChargeWords.{IsCharged}
 pub use Rattle.line_text.specs.Parsing.{kept_if}
 pub use Rattle.machine_laws.proofs.LeastMoves.{IsTable}
 pub use Rattle.rand_core.specs.Stream.{Stream}

@@ -1,6 +1,6 @@
 -- The beginning of every run.
 use Rattle.std.specs.Prelude.{ℕ, None}
-use Rattle.rule_machine.specs.declared.rules.RuleSet.{RuleSet}
+use Rattle.rule_machine.specs.declared.rule_set.RuleSet.{RuleSet}
 use Rattle.rule_machine.specs.Run as run
 use Rattle.line_text.specs.EntryText.{header_line}
 use Rattle.script_text.specs.Script.{Progress}

@@ -15,8 +15,7 @@ ghost use Rattle.run_session.specs.Line.{progress, progress_of, EventEnds, Turns
 
 use crate::{LineError, read_command};
 use line_text::{put_base, put_header};
-use rule_machine::{Event, Reply, RuleSet, Want};
-use rules_api::Rules;
+use rule_machine::{Event, Reply, RuleSet, Rules, Want};
 use script_text::{Command, Turns};
 use seeded_turns::{DaemonTurns, EventSource, FaultTurns};
 use std::alloc::{AllocError, Global};

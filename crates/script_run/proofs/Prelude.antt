@@ -16,7 +16,7 @@ pub use Rattle.rule_machine.specs.Least.{reply_of}
 pub use Rattle.rule_machine.specs.RuleTable.{RuleTable}
 pub use Rattle.rule_machine.specs.Run.{Moment}
 pub use Rattle.rule_machine.specs.declared.event.Event.{Event}
-pub use Rattle.rule_machine.specs.declared.rules.RuleSet.{RuleSet}
+pub use Rattle.rule_machine.specs.declared.rule_set.RuleSet.{RuleSet}
 pub use Rattle.run_session.proofs.Returned.{returned}
 pub use Rattle.run_session.specs.Line.{TurnsBegin, CommandBegins, CommandEnds, progress}
 pub use Rattle.run_session.specs.declared.line_error.LineError.{LineError}

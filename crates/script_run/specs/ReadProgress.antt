@@ -5,7 +5,7 @@ use Rattle.rule_machine.specs.RuleTable.{RuleTable}
 use Rattle.script_text.specs.Script.{Progress, LinesDo, lines_of}
 use Rattle.byte_streams.specs.Lines.{IsLine}
 use Rattle.script_run.specs.declared.fault.RunFault.{RunFault}
-use Rattle.script_run.specs.declared.reading.ReadProgress.{ReadProgress}
+use Rattle.script_run.specs.declared.read_progress.ReadProgress.{ReadProgress}
 use Rattle.script_run.specs.RunEnds.{SplitsOutput, EndsReading}
 use Rattle.script_run.specs.WholeLines.{ended_text}
 

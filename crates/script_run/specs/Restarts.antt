@@ -1,6 +1,6 @@
 -- Where a run or a storm goes on.
 use Rattle.std.specs.Prelude.{ℕ, [], None}
-use Rattle.rule_machine.specs.declared.rules.RuleSet.{RuleSet}
+use Rattle.rule_machine.specs.declared.rule_set.RuleSet.{RuleSet}
 use Rattle.rule_machine.specs.Network.{node_count}
 use Rattle.rule_machine.specs.State.{State}
 use Rattle.script_text.specs.Script.{Progress, with_checkpoint}

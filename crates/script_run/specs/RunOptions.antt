@@ -1,6 +1,6 @@
 -- The options of a run.
 use Rattle.std.specs.Prelude.{ℕ}
-use Rattle.rule_machine.specs.declared.rules.RuleSet.{RuleSet}
+use Rattle.rule_machine.specs.declared.rule_set.RuleSet.{RuleSet}
 use Rattle.script_run.specs.declared.options.Options.{Options}
 
 -- the rule set, how many names there are, how many nodes are present at the start, the limit of entries, the

@@ -16,11 +16,11 @@
 mod fault;
 mod options;
 mod piece;
-mod reading;
+mod read_progress;
 mod refused_line;
 mod restart;
 mod resumption;
-mod runner;
+mod run;
 mod script;
 mod stepping;
 mod writing;

@@ -9,11 +9,11 @@ ghost use Rattle.script_run.specs.Line.{CarriesLine};
 ghost use Rattle.script_run.specs.ReadProgress.{IsReadUpTo, CarriesPiece, extent};
 
 use crate::RunFault;
-use crate::reading::ReadProgress;
-use crate::runner::Run;
+use crate::read_progress::ReadProgress;
+use crate::run::Run;
 use crate::writing::hand_over;
 use byte_streams::{FailStopWriter, split_line};
-use rules_api::Rules;
+use rule_machine::Rules;
 use run_session::LineError;
 use script_text::MAX_LINE;
 use std::alloc::Global;

@@ -6,7 +6,7 @@ ghost use Rattle.script_text.specs.Command.{SaysNothing};
 
 use std::alloc::Global;
 
-/// The bytes of the line at which a run ended with `BadLine`, without its LF.
+/// The bytes of the line that ended a run with `BadLine`, without its LF.
 ///
 /// There are none if no line was bad, or if memory ran out for them. Of a line above 1,048,576 bytes there are
 /// those that were read, more than 1,048,576.

@@ -2,7 +2,7 @@
 
 ghost use Rattle.std.specs.Prelude.{◌≡◌, ◌+◌, ◌≤◌, ℕ, false, max, min};
 ghost use Rattle.std.proofs.Props.{props};
-ghost use Rattle.charge_laws.specs.ChargeWords.{charge_bound};
+ghost use Rattle.machine_laws.specs.ChargeWords.{charge_bound};
 ghost use Rattle.rule_machine.specs.State.{flag};
 ghost use Rattle.rule_machine.specs.Tables.{table_of, weight_of};
 

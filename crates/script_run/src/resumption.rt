@@ -9,12 +9,11 @@ ghost use Rattle.script_run.specs.Outcome.{EndsFrom};
 ghost use Rattle.script_run.specs.Restarts.{restarted};
 ghost use Rattle.script_run.specs.WholeLines.{DoesWholeLines};
 
-use crate::runner::{Run, play};
+use crate::run::{Run, play};
 use crate::{RefusedLine, Restart, RunFault};
 use byte_streams::{CountingReader, FailStopWriter};
 use rule_engine::Net;
-use rule_machine::RuleSet;
-use rules_api::Rules;
+use rule_machine::{RuleSet, Rules};
 use rules_hsu_huang::HsuHuang;
 use rules_manne::Manne;
 use run_session::Run as LineRun;

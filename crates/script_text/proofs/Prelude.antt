@@ -11,11 +11,11 @@ pub use Rattle.std.specs.Option.{option_map}
 pub use Rattle.std.specs.Prelude.{slice_index}
 pub use Rattle.std.specs.Str.Parse.{AllDigits, digits_value}
 pub use Rattle.byte_streams.specs.Lines.{IsLine}
-pub use Rattle.charge_laws.proofs.Laws.{hsu_huang_charged, manne_charged}
-pub use Rattle.charge_laws.proofs.Tables.{hsu_huang_table, manne_table}
-pub use Rattle.charge_laws.specs.ChargeWords.{IsCharged}
+pub use Rattle.machine_laws.proofs.Laws.{hsu_huang_charged, manne_charged}
+pub use Rattle.machine_laws.proofs.Tables.{hsu_huang_table, manne_table}
+pub use Rattle.machine_laws.specs.ChargeWords.{IsCharged}
 pub use Rattle.daemon.specs.DrawnChoices.{choice_drawn}
-pub use Rattle.drive_laws.proofs.Turns.{turn_rests, turn_pays, zero_is_quiet}
+pub use Rattle.script_text.proofs.Turns.{turn_rests, turn_pays, zero_is_quiet}
 pub use Rattle.line_text.proofs.Digits.{own, run_once}
 pub use Rattle.line_text.proofs.EventLengths.{two_short, event_short}
 pub use Rattle.line_text.proofs.EventsOnce.{spells_once}
@@ -35,7 +35,7 @@ pub use Rattle.rule_machine.specs.State.{State, IsState}
 pub use Rattle.rule_machine.specs.declared.choice.Item.{Item}
 pub use Rattle.rule_machine.specs.declared.event.Event.{Event}
 pub use Rattle.rule_machine.specs.declared.event.Event.TheVariants.{Link, Step}
-pub use Rattle.rule_machine.specs.declared.rules.RuleSet.{RuleSet}
+pub use Rattle.rule_machine.specs.declared.rule_set.RuleSet.{RuleSet}
 pub use Rattle.seeded_turns.specs.DrawnEvents.{Draws, seeded_stream, drawn_step, drawn_fault}
 pub use Rattle.script_text.specs.Command.{IsTurns, IsCommand, turns_text, command_text, SaysNothing, Says}
 pub use Rattle.script_text.specs.Readers.{AllHold, FirstBadScript}

@@ -1,3 +1,4 @@
+pub mod DriveEnds
 pub mod Command
 pub mod Script
 pub mod Texts

@@ -1,11 +1,13 @@
 //! Laws of all scripts.
 
 ghost use Rattle.std.specs.Prelude.{◌≡◌, ◌<◌, ◌≤◌, ℕ, List, [], length};
+ghost use Rattle.rand_core.specs.Stream.{Stream};
 ghost use Rattle.rule_machine.specs.HsuHuang.{hsu_huang};
 ghost use Rattle.rule_machine.specs.Manne.{manne};
 ghost use Rattle.rule_machine.specs.RuleTable.{RuleTable, enabled_names};
-ghost use Rattle.rule_machine.specs.State.{IsState};
+ghost use Rattle.rule_machine.specs.State.{State, IsState};
 ghost use Rattle.script_text.specs.Command.{Says, SaysNothing};
+ghost use Rattle.script_text.specs.DriveEnds.{driven};
 ghost use Rattle.script_text.specs.declared.command.Command.{Command};
 ghost use Rattle.script_text.specs.declared.command.Command.TheVariants.{Drive};
 ghost use Rattle.script_text.specs.declared.command.Turns.{Turns};
@@ -21,6 +23,12 @@ pub fn one_end()
 /// A line of more than 1,048,576 bytes is no command, so a run need not read the rest of the line.
 pub fn long_line()
     ensures { (line : List ℕ) → 1048576 < length line → SaysNothing line }
+{}
+
+/// The network is silent once a seeded daemon's turns reach the charge at the start, for any seed.
+pub fn long_draws_end_silent()
+    ensures hsu_huang { (s : State) → IsState s → (turns : ℕ) → hsu_huang.charge s ≤ turns → (stream : Stream) → enabled_names hsu_huang (driven hsu_huang turns stream s) ≡ [] }
+    ensures manne { (s : State) → IsState s → (turns : ℕ) → manne.charge s ≤ turns → (stream : Stream) → enabled_names manne (driven manne turns stream s) ≡ [] }
 {}
 
 /// A `drive` of at least as many turns as the charge before it leaves no node enabled.

@@ -7,6 +7,9 @@
 //! `read_line_into` reads one line, for a caller that carries out the line at once. `read_scripts` reads one
 //! script from each of at most 64 readers.
 //!
+//! Laws are empty functions whose contract is the law. So a long enough `drive` ends silent: while a rule is
+//! enabled, each turn of a seeded daemon moves at least one node.
+//!
 //! ```rust
 //! let mut command = Command::Checkpoint;
 //! let is_one = read_line_into(alloc, b"drive 7 100", &mut command)?;
@@ -24,7 +27,7 @@ mod text;
 
 pub use command::{Command, MAX_TURNS, Turns};
 pub use fault::TextsFault;
-pub use law::{long_drives_end_silent, long_line, one_end};
+pub use law::{long_draws_end_silent, long_drives_end_silent, long_line, one_end};
 pub use lines::{MAX_LINE, next_line};
 pub use read::{read_line, read_line_into};
 pub use reading::{MAX_SCRIPTS, read_scripts};

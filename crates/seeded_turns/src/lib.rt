@@ -18,9 +18,9 @@
 #![tactic(auto)]
 
 mod daemon_turns;
+mod event_source;
 mod fault_turns;
-mod source;
 
 pub use daemon_turns::DaemonTurns;
+pub use event_source::EventSource;
 pub use fault_turns::FaultTurns;
-pub use source::EventSource;

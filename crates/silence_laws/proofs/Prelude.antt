@@ -3,23 +3,23 @@ pub use Rattle.std.proofs.Common.{◌≡◌, ℕ, zero, suc, ◌+◌, ◌-◌, �
 pub use Rattle.std.proofs.lemmas.Bool.{and_from, cond-true, cond-false, cases_Bool, true≢false, and_parts, or_cases, or_left, or_right, or_parts, cases_lt, cases_order, eq-eqb, eqb-true, not-true, false_from_ne_true, and_cases, ne_eqb, not_from_false, cases_eq}
 pub use Rattle.std.proofs.lemmas.List.Sums.{length-filter}
 pub use Rattle.std.proofs.lemmas.Option.{same_Some, none-some}
-pub use Rattle.charge_laws.proofs.CostsOfRuns.{manne_one, leave_has, manne_disturbed, point_parts, hsu_huang_disturbed}
-pub use Rattle.charge_laws.proofs.Disturbed.{count_or, IsSubNetwork, WaitsOnly, IsWritten, wed_stays, written_at, leave_waits, leave_within, unlink_waits, unlink_within}
-pub use Rattle.charge_laws.proofs.EdgeChanges.{taken_out}
-pub use Rattle.charge_laws.proofs.EdgesByNodes.{edges_without_repeats}
-pub use Rattle.charge_laws.proofs.HsuHuangCosts.{hsu_huang_grows}
-pub use Rattle.charge_laws.proofs.Pairs.{IsSeen, seen}
-pub use Rattle.charge_laws.proofs.Laws.{manne_charged, moves_are_paid, hsu_huang_charged}
-pub use Rattle.charge_laws.proofs.ListCounts.{sum_add, sum_agree, sum_le, IsIn, count_all, count_into, count_none, one_count, none_count, once}
-pub use Rattle.charge_laws.proofs.ManneCosts.{manne_grows}
-pub use Rattle.charge_laws.proofs.ManneStableCharge.{manne_stable_charge, married_are_pairs, unmarried_charge}
-pub use Rattle.charge_laws.proofs.Members.{in_names, names_present, names_without_repeats, edges_contain}
-pub use Rattle.charge_laws.proofs.StableCharge.{an_end_paired, hsu_huang_stable_is_zero}
-pub use Rattle.charge_laws.proofs.Stances.{married_is, is_paired, paired_is, stance, paired_from}
-pub use Rattle.charge_laws.proofs.Tables.{manne_table, hsu_huang_table}
-pub use Rattle.charge_laws.specs.ChargeWords.{IsUndisturbed, moves_in}
-pub use Rattle.charge_laws.specs.Costs.{hsu_huang_cost, hsu_huang_point_cost, manne_cost, manne_leave_cost, manne_point_cost}
-pub use Rattle.charge_laws.specs.Degrees.{degree, degree_at}
+pub use Rattle.machine_laws.proofs.CostsOfRuns.{manne_one, leave_has, manne_disturbed, point_parts, hsu_huang_disturbed}
+pub use Rattle.machine_laws.proofs.Disturbed.{count_or, IsSubNetwork, WaitsOnly, IsWritten, wed_stays, written_at, leave_waits, leave_within, unlink_waits, unlink_within}
+pub use Rattle.machine_laws.proofs.EdgeChanges.{taken_out}
+pub use Rattle.machine_laws.proofs.EdgesByNodes.{edges_without_repeats}
+pub use Rattle.machine_laws.proofs.HsuHuangCosts.{hsu_huang_grows}
+pub use Rattle.machine_laws.proofs.PaidMoves.{IsSeen, seen}
+pub use Rattle.machine_laws.proofs.Laws.{manne_charged, moves_are_paid, hsu_huang_charged}
+pub use Rattle.machine_laws.proofs.ListCounts.{sum_add, sum_agree, sum_le, IsIn, count_all, count_into, count_none, one_count, none_count, once}
+pub use Rattle.machine_laws.proofs.ManneCosts.{manne_grows}
+pub use Rattle.machine_laws.proofs.ManneStableCharge.{manne_stable_charge, married_are_pairs, unmarried_charge}
+pub use Rattle.machine_laws.proofs.Members.{in_names, names_present, names_without_repeats, edges_contain}
+pub use Rattle.machine_laws.proofs.StableCharge.{an_end_paired, hsu_huang_stable_is_zero}
+pub use Rattle.machine_laws.proofs.Stances.{married_is, is_paired, paired_is, stance, paired_from}
+pub use Rattle.machine_laws.proofs.Tables.{manne_table, hsu_huang_table}
+pub use Rattle.machine_laws.specs.ChargeWords.{IsUndisturbed, moves_in}
+pub use Rattle.machine_laws.specs.Costs.{hsu_huang_cost, hsu_huang_point_cost, manne_cost, manne_leave_cost, manne_point_cost}
+pub use Rattle.machine_laws.specs.Degrees.{degree, degree_at}
 pub use Rattle.containment_laws.proofs.AtRest.{all_rest, rest_is_stable}
 pub use Rattle.containment_laws.proofs.Containment.{answered_mild, run_keeps_network, run_keeps_pair, disturbed_rests, mild_weds}
 pub use Rattle.containment_laws.proofs.Edits.{mutual_is, IsMild, mutual_from}

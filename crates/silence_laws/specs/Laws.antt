@@ -11,8 +11,8 @@ use Rattle.rule_machine.specs.Manne.{manne}
 use Rattle.rule_machine.specs.Stable.{IsStable, mutual_pairs}
 use Rattle.rule_machine.specs.Answer.{Answers}
 use Rattle.rule_machine.specs.Run.{Entry, Moment, Run}
-use Rattle.charge_laws.specs.ChargeWords.{IsUndisturbed, moves_in}
-use Rattle.charge_laws.specs.Costs.{hsu_huang_cost, manne_cost}
+use Rattle.machine_laws.specs.ChargeWords.{IsUndisturbed, moves_in}
+use Rattle.machine_laws.specs.Costs.{hsu_huang_cost, manne_cost}
 use Rattle.silence_laws.specs.Changes.{most_gained, most_lost, nodes_gone}
 use Rattle.silence_laws.specs.Costs.{manne_silent_cost, silent_cost}
 

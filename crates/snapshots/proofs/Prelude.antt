@@ -41,5 +41,5 @@ pub use Rattle.snapshots.specs.Starts.{IsStart, StartsAt}
 pub use Rattle.snapshots.specs.Rule.{ExtendsView, IsSound, Publishes, Sees}
 pub use Rattle.snapshots.specs.Sharing.{posted_at, shown_in, known_in, pending_in}
 pub use Rattle.snapshots.specs.Views.{BoardView}
-pub use Rattle.snapshots.specs.declared.image.Posted.{Posted}
+pub use Rattle.snapshots.specs.declared.register_copy.Posted.{Posted}
 pub use Rattle.snapshots.specs.declared.sharing.LonePost.{LonePost}

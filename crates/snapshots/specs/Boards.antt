@@ -5,7 +5,7 @@ use Rattle.rule_machine.specs.Run.{Entry}
 use Rattle.rule_machine.specs.Base.{dropped}
 use Rattle.logbook.specs.Pages.{Book}
 use Rattle.snapshots.specs.declared.history.HistoryPrefix.{HistoryPrefix}
-use Rattle.snapshots.specs.declared.image.Posted.{Posted}
+use Rattle.snapshots.specs.declared.register_copy.Posted.{Posted}
 use Rattle.snapshots.specs.declared.marks.Mark.{Mark}
 use Rattle.snapshots.specs.History.{published, posted, shown, max_marks}
 use Rattle.snapshots.specs.Origins.{base_before, origin_of}

@@ -1,7 +1,7 @@
 -- The copies of a board as contracts see them: one copy, or two of which readers use one.
 use Rattle.std.specs.Prelude.{List, [], Option, None, Some, drop, map}
 use Rattle.left_right.specs.Sides.{view}
-use Rattle.snapshots.specs.declared.image.Posted.{Posted}
+use Rattle.snapshots.specs.declared.register_copy.Posted.{Posted}
 use Rattle.snapshots.specs.declared.sharing.LonePost.{LonePost}
 use Rattle.snapshots.specs.declared.sharing.Copies.{Copies}
 use Rattle.snapshots.specs.declared.sharing.Copies.TheVariants.{One, Two}

@@ -8,7 +8,7 @@ ghost use Rattle.snapshots.specs.Starts.{StartsAt};
 ghost use Rattle.snapshots.specs.Row.{BoardShape, pointers_after, here_after, IsRun};
 
 use crate::rule::Law;
-use rules_api::Rules;
+use rule_machine::Rules;
 use std::marker::PhantomData;
 
 /// The law that each log is a run of the rules from the opening state, or from the board's base.

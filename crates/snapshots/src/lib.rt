@@ -20,18 +20,18 @@
 //! ```
 #![tactic(auto)]
 
-mod copies;
+mod board;
 mod effect;
 mod history;
-mod image;
 pub mod laws;
 mod marks;
 mod note;
 mod reader;
+mod register_copy;
 mod rule;
 mod sharing;
 
-pub use copies::{Board, NoPlace};
+pub use board::{Board, NoPlace};
 pub use laws::Runs;
 pub use note::Note;
 pub use reader::{Reader, Snapshot};

@@ -11,8 +11,8 @@ ghost use Rattle.snapshots.specs.Views.{extent_seen};
 ghost use Rattle.snapshots.specs.Boards.{IsReader};
 
 use crate::history::HistoryPrefix;
-use crate::image::RegisterCopy;
 use crate::note::Note;
+use crate::register_copy::RegisterCopy;
 use crate::rule::{Law, Published, ReadStep as Looks};
 use core::mem::replace_with;
 use left_right::reader::Reader as Seat;

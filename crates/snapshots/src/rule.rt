@@ -5,7 +5,7 @@ ghost use Rattle.rule_machine.specs.Run.{Entry};
 ghost use Rattle.snapshots.specs.Row.{BoardShape};
 ghost use Rattle.snapshots.specs.Rule.{Publishes, Sees};
 
-use crate::image::RegisterCopy;
+use crate::register_copy::RegisterCopy;
 use atomic_table::{Join, Split};
 use crossbeam_utils::rule::{Outcome, Protocol};
 use std::marker::PhantomData;

@@ -9,8 +9,8 @@ ghost use Rattle.snapshots.specs.Sharing.{shown_in, known_in, pending_in, waitin
 
 use crate::NoPlace;
 use crate::history::HistoryPrefix;
-use crate::image::{Posted, RegisterCopy};
 use crate::reader::SeatAt;
+use crate::register_copy::{Posted, RegisterCopy};
 use crate::rule::{Law, Learn, Published, ReadStep, Tell};
 use core::mem::{replace, replace_with};
 use left_right::writer::Writer;

@@ -24,7 +24,7 @@ mod gate;
 mod hand;
 mod merging;
 mod paying;
-mod working;
+mod worker;
 
 pub use dealing::{MAX_WORKERS, hands};
 pub use evaluation::evaluate;

@@ -3,7 +3,7 @@ use Rattle.step_log.proofs.Prelude.{◌≡◌, ◌≤◌, ℕ, List, [], length,
 use Rattle.rule_machine.specs.Network.{Network}
 use Rattle.rule_machine.specs.Base.{IsBaseMoment, base_of}
 use Rattle.rule_engine.specs.EventReplies.{IsWithinBudget}
-use Rattle.charge_laws.specs.ChargeWords.{charge_bound}
+use Rattle.machine_laws.specs.ChargeWords.{charge_bound}
 use Rattle.step_log.specs.declared.epoch.Epoch.{Epoch}
 use Rattle.step_log.specs.Epochs.{of_run}
 use Rattle.step_log.specs.BaseStarts.{BeginsIn, kept_from, recording_from}

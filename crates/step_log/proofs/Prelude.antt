@@ -14,12 +14,12 @@ pub use Rattle.std.specs.List.{list_all, cons_option, range_with_len}
 pub use Rattle.std.specs.List.Sorted.{IsStrictlyIncreasing}
 pub use Rattle.std.specs.Option.{option_map}
 pub use Rattle.std.specs.Prelude.{IfOk, IfSome}
-pub use Rattle.charge_laws.proofs.Epochs.{epochs_are_bounded}
-pub use Rattle.charge_laws.proofs.Laws.{moves_are_paid}
-pub use Rattle.charge_laws.proofs.Runs.{Effect, rests, steps, disturbs, effect, step_network}
-pub use Rattle.charge_laws.proofs.RunsFromBases.{begins_in_state, begins_once, begins_within, may_begin_again}
-pub use Rattle.charge_laws.specs.ChargeWords.{charge_bound, IsCharged}
-pub use Rattle.charge_laws.specs.Epochs.{IsPath, IsBoundedEpoch}
+pub use Rattle.machine_laws.proofs.Epochs.{epochs_are_bounded}
+pub use Rattle.machine_laws.proofs.Laws.{moves_are_paid}
+pub use Rattle.machine_laws.proofs.ChargesOfRuns.{Effect, rests, steps, disturbs, effect, step_network}
+pub use Rattle.machine_laws.proofs.RunsFromBases.{begins_in_state, begins_once, begins_within, may_begin_again}
+pub use Rattle.machine_laws.specs.ChargeWords.{charge_bound, IsCharged}
+pub use Rattle.machine_laws.specs.Epochs.{IsPath, IsBoundedEpoch}
 pub use Rattle.line_text.specs.EntryText.{entry_line}
 pub use Rattle.log_entry.specs.Kinds.{fits, takes_target, is_move, are_moves}
 pub use Rattle.machine_laws.proofs.AcceptedEvents.{state_after_keeps}
@@ -38,7 +38,7 @@ pub use Rattle.round_laws.proofs.Counting.{answer_followed}
 pub use Rattle.round_laws.proofs.RoundCounts.{counted_whole}
 pub use Rattle.round_laws.specs.Rounds.{rounds_in}
 pub use Rattle.round_laws.specs.RoundCounts.{RoundCount, count_of_log, first_count, next_count, next_counting, rounds_of}
-pub use Rattle.charge_laws.specs.ChargeWords.{IsUndisturbed}
+pub use Rattle.machine_laws.specs.ChargeWords.{IsUndisturbed}
 pub use Rattle.rule_engine.proofs.AscendingMoves.{rises_tail}
 pub use Rattle.rule_machine.specs.Answer.{Answers, spent_after, Does, AnswersBy}
 pub use Rattle.rule_machine.specs.Base.{begun_at, dropped, BeginsAt, base_of}

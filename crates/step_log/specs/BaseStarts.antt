@@ -6,7 +6,7 @@ use Rattle.rule_machine.specs.Network.{node_count}
 use Rattle.rule_machine.specs.Run.{Moment}
 use Rattle.rule_machine.specs.RuleTable.{RuleTable}
 use Rattle.rule_machine.specs.State.{State}
-use Rattle.charge_laws.specs.ChargeWords.{charge_bound}
+use Rattle.machine_laws.specs.ChargeWords.{charge_bound}
 use Rattle.rule_engine.specs.BaseFaults.{ExplainsBaseFault}
 use Rattle.step_log.specs.declared.start_fault.StartFault.{StartFault}
 use Rattle.step_log.specs.declared.start_fault.StartFault.TheVariants.{LogFull, NoStart}

@@ -9,7 +9,7 @@ use Rattle.rule_machine.specs.RuleTable.{RuleTable}
 use Rattle.rule_machine.specs.Answer.{spent_after}
 use Rattle.rule_machine.specs.Run.{Entry, Moment, epochs_by, epochs_from, open_at, Epoch as EpochOf}
 use Rattle.rule_machine.specs.Base.{begun_at, dropped}
-use Rattle.charge_laws.specs.Epochs.{IsPath}
+use Rattle.machine_laws.specs.Epochs.{IsPath}
 use Rattle.step_log.specs.declared.epoch.Epoch.{Epoch}
 use Rattle.step_log.specs.RetainedLogs.{RetainedLog, Begins}
 

@@ -5,8 +5,8 @@ use Rattle.rule_machine.specs.State.{State}
 use Rattle.rule_machine.specs.RuleTable.{RuleTable, enabled_names}
 use Rattle.rule_machine.specs.Stable.{IsStable, IsMaximalMatching, mutual_pairs}
 use Rattle.rule_machine.specs.Run.{Entry, Moment, Run}
-use Rattle.charge_laws.specs.ChargeWords.{IsUndisturbed, moves_in}
-use Rattle.charge_laws.specs.Epochs.{IsPath, IsBoundedEpoch}
+use Rattle.machine_laws.specs.ChargeWords.{IsUndisturbed, moves_in}
+use Rattle.machine_laws.specs.Epochs.{IsPath, IsBoundedEpoch}
 use Rattle.rule_engine.specs.EngineStates.{IsAnswered}
 use Rattle.step_log.specs.Epochs.{epochs_along}
 use Rattle.step_log.specs.RetainedLogs.{RetainedLog, Begins, moment_in}

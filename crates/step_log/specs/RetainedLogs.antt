@@ -7,7 +7,7 @@ use Rattle.rule_machine.specs.RuleTable.{RuleTable}
 use Rattle.rule_machine.specs.Least.{reply_of, state_after, spent_by}
 use Rattle.rule_machine.specs.Run.{Entry, Moment, Run}
 use Rattle.rule_machine.specs.Base.{BeginsAt, base_of, dropped}
-use Rattle.charge_laws.specs.ChargeWords.{charge_bound}
+use Rattle.machine_laws.specs.ChargeWords.{charge_bound}
 use Rattle.step_log.specs.declared.receipt.Receipt.{Receipt}
 use Rattle.step_log.specs.Log.{Log, max_entries}
 

@@ -4,7 +4,7 @@ use Rattle.rule_machine.specs.declared.reply.Reply.{Reply}
 use Rattle.rule_machine.specs.State.{State, IsState}
 use Rattle.rule_machine.specs.RuleTable.{RuleTable}
 use Rattle.rule_machine.specs.Run.{Entry, Moment, Run}
-use Rattle.charge_laws.specs.ChargeWords.{IsUndisturbed}
+use Rattle.machine_laws.specs.ChargeWords.{IsUndisturbed}
 use Rattle.round_laws.specs.Rounds.{rounds_in, rounds_from}
 use Rattle.round_laws.specs.RoundCounts.{RoundCount}
 use Rattle.round_counter.specs.Counting.{HasCounted, count_in, is_step}

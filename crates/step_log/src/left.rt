@@ -2,7 +2,7 @@
 
 ghost use Rattle.std.specs.Prelude.{◌≡◌, []};
 ghost use Rattle.rule_machine.specs.RuleTable.{enabled_names};
-ghost use Rattle.node_bound.specs.MovesLeft.{moves_left, BoundsMoves};
+ghost use Rattle.move_bounds.specs.MovesLeft.{moves_left, BoundsMoves};
 
 use crate::{Journal, Recorder};
 use rule_engine::NodeBound;

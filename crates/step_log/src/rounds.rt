@@ -7,7 +7,7 @@ ghost use Rattle.rule_machine.specs.declared.reply.Reply.{Reply};
 ghost use Rattle.rule_machine.specs.Answer.{Answers, spent_after};
 ghost use Rattle.rule_machine.specs.Run.{Entry, Moment};
 ghost use Rattle.rule_machine.specs.State.{State, IsState};
-ghost use Rattle.charge_laws.specs.ChargeWords.{IsUndisturbed};
+ghost use Rattle.machine_laws.specs.ChargeWords.{IsUndisturbed};
 ghost use Rattle.round_laws.specs.RoundCounts.{count_of_log, next_counting, rounds_of};
 ghost use Rattle.round_laws.specs.Rounds.{rounds_in};
 ghost use Rattle.step_log.specs.Recording.{counting_from};

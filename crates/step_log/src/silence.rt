@@ -3,7 +3,7 @@
 ghost use Rattle.std.specs.Prelude.{◌≡◌, ◌≤◌, ◌+◌, ◌↔◌, [], IfSome, IsSome};
 ghost use Rattle.rule_machine.specs.RuleTable.{enabled_names};
 ghost use Rattle.rule_engine.specs.Costs.{disturbance_cost};
-ghost use Rattle.silent_cost.specs.FromSilence.{BoundsMovesAfter};
+ghost use Rattle.move_bounds.specs.FromSilence.{BoundsMovesAfter};
 
 use crate::{Journal, Recorder};
 use rule_engine::{Event, SilentCost};

@@ -1,7 +1,7 @@
 -- What scripts leave on a network that was made as asked, and what a storm that goes on does.
 use Rattle.storm_runner.proofs.Prelude.{◌≡◌, ◌∙◌, ℕ, List, Option, Some, Result, sym, subst, StormFault, EndsAllScripts, Base, RuleTable, Upholds, RetainedLog, IsRetainedRun, CallFault, OptionsView, ScriptLine, IsStormResult, Leaves, StormStart, start_setting, FailsToPlay, of_settle, IsUnsettledStorm, SettleFault, ◌≢◌}
 use Rattle.locked_net.specs.declared.settle_fault.SettleFault.TheVariants as settle
-use Rattle.rule_machine.specs.declared.rules.RuleSet.{RuleSet}
+use Rattle.rule_machine.specs.declared.rule_set.RuleSet.{RuleSet}
 use Rattle.rule_machine.specs.Tables.{table_of, weight_of}
 use Rattle.script_run.specs.Restarts.{options_at, restart_of}
 use Rattle.script_run.specs.declared.restart.Restart.{Restart}

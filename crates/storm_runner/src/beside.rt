@@ -10,10 +10,10 @@ ghost use Rattle.locked_net.specs.declared.roam_fault.RoamFault.TheVariants.{Thr
 ghost use Rattle.storm_runner.specs.PlayedCommands.{PlayedOn, ToldOn};
 ghost use Rattle.storm_runner.specs.StormRoamers.{RoamResultOfNew, roam_call_fault};
 
-use crate::forks::play_all;
-use crate::stage::StormContext;
+use crate::split_work::play_all;
+use crate::storm_context::StormContext;
 use locked_net::{CallFault, Clerk, RoamFault, roam};
-use rules_api::Rules;
+use rule_machine::Rules;
 use script_text::Script;
 use std::sync::Wait;
 use std::thread::{Threads, join_mut};

@@ -7,8 +7,7 @@ ghost use Rattle.rule_machine.specs.Base.{dropped};
 ghost use Rattle.storm_runner.specs.RetainedText.{AreWritable, kept_text, retained_opening};
 
 use line_text::{put_entry, put_header};
-use rule_machine::{RuleSet, Want};
-use rules_api::Rules;
+use rule_machine::{RuleSet, Rules, Want};
 use step_log::Journal;
 
 fn append_entries<R: Rules>(out: &mut Vec<u8>, journal: &Journal<R>) -> Result<(), Want>

@@ -10,8 +10,7 @@ ghost use Rattle.storm_runner.specs.StormStarts.{GoesOnAs, base_at_start};
 
 use locked_net::LockedNet;
 use rule_engine::Net;
-use rule_machine::Want;
-use rules_api::Rules;
+use rule_machine::{Rules, Want};
 use script_run::{Options, Restart};
 use std::alloc::{AllocError, Global};
 use std::sync::Wait;

@@ -9,11 +9,10 @@ ghost use Rattle.locked_net.specs.Receipts.{HasNoteOf, IsOfBook, front_of, noted
 ghost use Rattle.script_text.specs.declared.command.Command.TheVariants.{Tell, Checkpoint};
 ghost use Rattle.storm_runner.specs.PlayedCommands.{Plays, IsBased};
 
-use crate::stage::StormContext;
-use crate::turns::{drive, recall, scramble};
+use crate::storm_context::StormContext;
+use crate::turn_taker::{drive, recall, scramble};
 use locked_net::{CallFault, Clerk, LockedNet, StepFault};
-use rule_machine::{Choice, Event, Reply};
-use rules_api::Rules;
+use rule_machine::{Choice, Event, Reply, Rules};
 use script_text::Command;
 use std::sync::Wait;
 use std::thread::Threads;

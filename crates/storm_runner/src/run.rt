@@ -12,10 +12,9 @@ ghost use Rattle.storm_runner.specs.Storm.{IsStormResult, IsUnsettledStorm};
 
 use crate::WorkerConfig;
 use crate::beside::play_beside;
-use crate::stage::StormContext;
+use crate::storm_context::StormContext;
 use locked_net::{CallFault, Clerk, LockedNet, SettleFault, settle_own};
-use rule_machine::Want;
-use rules_api::Rules;
+use rule_machine::{Rules, Want};
 use script_text::Script;
 use std::alloc::Global;
 use std::sync::Wait;

@@ -10,7 +10,7 @@ ghost use Rattle.storm_runner.specs.declared.fault.StormFault.TheVariants.{Write
 
 use crate::{StormFault, put_log};
 use byte_streams::FailStopWriter;
-use rules_api::Rules;
+use rule_machine::Rules;
 use script_run::Options;
 use std::alloc::Global;
 use std::io::Write;

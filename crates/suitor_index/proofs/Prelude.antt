@@ -31,7 +31,7 @@ pub use Rattle.rule_machine.specs.Network.{Network, IsNetwork, linked, neighbour
 pub use Rattle.rule_machine.specs.Refuse.{link_refusal}
 pub use Rattle.rule_machine.specs.RuleTable.{is_open}
 pub use Rattle.rule_machine.specs.State.{State, IsState, suits, has_suitor, first_suitor, Registers, points, pointer_of, flag_of, with_pointer, with_flag, opening_with, is_at, pointer, flag}
-pub use Rattle.rules_api.specs.LocalViews.{is_reached, asks_for}
+pub use Rattle.rule_machine.specs.LocalViews.{is_reached, asks_for}
 pub use Rattle.suitor_index.specs.PriorIndexes.{WasIndexed}
 pub use Rattle.suitor_index.specs.Tallies.{IsIndexed, suitor_count, tally_at, name_if, IsLoneSuitor, tally_of, IsIndexOf, empty_tally, reduced}
 pub use Rattle.suitor_index.specs.TallyChanges.{one_if, IsOpenTo, CanTurn, IsTurned, AddsSuitor, IsAimed, IsRepointed, HasSuitor, HasTallyRoom}

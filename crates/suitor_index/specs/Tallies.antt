@@ -3,7 +3,7 @@ use Rattle.std.specs.Prelude.{◌≡◌, ℕ, ◌+◌, ◌%◌, ◌≤◌, Bool,
 use Rattle.std.specs.List.{count_by, sum_by}
 use Rattle.rule_machine.specs.Network.{linked, present, neighbours}
 use Rattle.rule_machine.specs.State.{State, IsState, pointer, suits}
-use Rattle.rules_api.specs.LocalViews.{is_reached}
+use Rattle.rule_machine.specs.LocalViews.{is_reached}
 use Rattle.suitor_index.specs.declared.tally.Tally.{Tally}
 
 -- all counts are 0, and the pointer is null

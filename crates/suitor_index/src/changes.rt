@@ -5,7 +5,7 @@ ghost use Rattle.net_state.specs.declared.change.Change.TheVariants.{Pointed, Fl
 ghost use Rattle.rule_machine.specs.Network.{present};
 ghost use Rattle.rule_machine.specs.State.{pointer, flag};
 ghost use Rattle.suitor_index.specs.PriorIndexes.{WasIndexed};
-ghost use Rattle.rules_api.specs.LocalViews.{asks_for};
+ghost use Rattle.rule_machine.specs.LocalViews.{asks_for};
 ghost use Rattle.suitor_index.specs.Tallies.{tally_of, IsIndexed};
 ghost use Rattle.suitor_index.specs.TallyChanges.{IsOpenTo};
 
@@ -13,8 +13,7 @@ use crate::Suitors;
 use crate::table::{aim, close_at, court, leave, open_at, turn};
 use crate::tally::{Tally, lone_tally};
 use net_state::{Change, NetState, Observer};
-use rule_machine::Node;
-use rules_api::{Rules, asks_for};
+use rule_machine::{Node, Rules, asks_for};
 
 impl<R: Rules> Observer for Suitors<R> {
     ghost fits = { λ net it. IsIndexed R.COURTS_HIGHER_ONLY R.table.opens net.state it.tallies.items };

@@ -5,7 +5,7 @@ ghost use Rattle.rule_machine.specs.Network.{present, linked};
 ghost use Rattle.rule_machine.specs.State.{IsState, points, pointer, suits, has_suitor, first_suitor};
 ghost use Rattle.rule_machine.specs.RuleTable as RuleTable;
 ghost use Rattle.rule_machine.specs.RuleTable.{is_open, first_open, last_open_above};
-ghost use Rattle.rules_api.specs.LocalViews.{reaches_beside};
+ghost use Rattle.rule_machine.specs.LocalViews.{reaches_beside};
 ghost use Rattle.suitor_index.specs.Tallies.{reduced, suitor_count, tally_at, IsLoneSuitor};
 
 use crate::tally::{Tally, node_named};
@@ -13,8 +13,7 @@ use crate::{NodeView, Suitors, scan};
 use graph_store::EdgeStore;
 use net_state::{NetState, Observer};
 use registers::Registers;
-use rule_machine::Node;
-use rules_api::{Rules, asks_for};
+use rule_machine::{Node, Rules, asks_for};
 use std::marker::Model;
 
 /// A network with the counts of its nodes, borrowed for look-ups.

@@ -22,13 +22,13 @@
 
 mod changes;
 mod indexed_net;
+mod node_view;
 mod scan;
 mod state_counts;
 mod suitors;
 mod table;
 mod tally;
-mod view;
 
 pub use indexed_net::IndexedNet;
+pub use node_view::NodeView;
 pub use suitors::Suitors;
-pub use view::NodeView;

@@ -1,14 +1,13 @@
 //! Scans of a node's neighbours.
 
 ghost use Rattle.std.specs.Prelude.{◌≡◌, ◌≤◌, ◌&&◌, All, find, nat_lt, reverse, IsTrue};
-ghost use Rattle.rules_api.specs.LocalViews.{asks_for};
+ghost use Rattle.rule_machine.specs.LocalViews.{asks_for};
 ghost use Rattle.rule_machine.specs.Network.{present};
 ghost use Rattle.rule_machine.specs.State.{points, pointer, flag};
 
 use crate::IndexedNet;
 use net_state::NetState;
-use rule_machine::Node;
-use rules_api::{Rules, asks_for};
+use rule_machine::{Node, Rules, asks_for};
 
 pub(crate) fn first_pointing_at<R: Rules>(
     nodes: &[Node],

@@ -3,7 +3,7 @@
 ghost use Rattle.std.specs.Prelude.{◌≡◌, ◌+◌, ◌%◌, ◌<◌, ◌≤◌, ◌&&◌, IfOk, IsTrue, cond};
 ghost use Rattle.rule_machine.specs.Network.{present};
 ghost use Rattle.rule_machine.specs.State.{flag, pointer, points};
-ghost use Rattle.rules_api.specs.LocalViews.{asks_for};
+ghost use Rattle.rule_machine.specs.LocalViews.{asks_for};
 ghost use Rattle.suitor_index.specs.Tallies.{reduced, tally_at};
 ghost use Rattle.suitor_index.specs.TallyChanges.{HasTallyRoom, one_if};
 
@@ -11,8 +11,7 @@ use crate::Suitors;
 use crate::scan::is_reached;
 use crate::tally::{Tally, lone_tally};
 use net_state::{NetState, Observer};
-use rule_machine::{Node, Want};
-use rules_api::Rules;
+use rule_machine::{Node, Rules, Want};
 use std::alloc::Global;
 
 /// Counts one neighbour `w` of `v`.

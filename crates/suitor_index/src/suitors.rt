@@ -6,8 +6,7 @@ ghost use Rattle.rule_machine.specs.State.{opening_with};
 
 use crate::tally::{Tally, lone_tally};
 use net_state::Observer;
-use rule_machine::Want;
-use rules_api::Rules;
+use rule_machine::{Rules, Want};
 use std::alloc::Global;
 use std::marker::PhantomData;
 

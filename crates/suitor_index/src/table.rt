@@ -3,14 +3,13 @@
 ghost use Rattle.std.specs.Prelude.{◌≡◌, ℕ, ◌<◌, ◌≤◌, ◌&&◌, true, IfSome, length, nat_eq};
 ghost use Rattle.std.specs.List.{list_any};
 ghost use Rattle.std.specs.List.Sorted.{IsStrictlyIncreasing};
-ghost use Rattle.rules_api.specs.LocalViews.{asks_for};
+ghost use Rattle.rule_machine.specs.LocalViews.{asks_for};
 ghost use Rattle.suitor_index.specs.Tallies.{tally_of};
 ghost use Rattle.suitor_index.specs.TallyChanges.{AddsSuitor, IsAimed, IsOpenTo, HasSuitor, HasTallyRoom, CanTurn, IsTurned};
 
 use crate::tally::Tally;
 use registers::Pointer;
-use rule_machine::Node;
-use rules_api::{Rules, asks_for};
+use rule_machine::{Node, Rules, asks_for};
 
 /// Removes `v` from the suitors of `pointer`, its old target.
 pub(crate) fn leave(tallies: &mut [Tally], pointer: Option<Node>, v: Node)

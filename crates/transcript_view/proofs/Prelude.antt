@@ -16,7 +16,7 @@ pub use Rattle.reply_checker.proofs.ExactAnswers.{some_iff_at}
 pub use Rattle.rule_machine.specs.Network.{present, neighbours}
 pub use Rattle.rule_machine.specs.State.{State}
 pub use Rattle.rule_machine.specs.Tables.{table_of}
-pub use Rattle.rule_machine.specs.declared.rules.RuleSet.{RuleSet}
+pub use Rattle.rule_machine.specs.declared.rule_set.RuleSet.{RuleSet}
 pub use Rattle.transcript_view.specs.Picture.{picture_of, edge_lines_at, edge_line, node_line}
 pub use Rattle.transcript_view.specs.Table.{epoch_table, epoch_row}
 pub use Rattle.transcript_view.specs.Views.{IsPicture, IsPictureOf, IsEpochTable, IsTableOf, SameView}

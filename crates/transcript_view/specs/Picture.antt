@@ -2,7 +2,7 @@
 use Rattle.std.specs.Prelude.{ℕ, Bool, true, false, List, [], ◌++◌, Option, None, Some, filter, nat_lt, codes}
 use Rattle.std.specs.List.{flat_map}
 use Rattle.rule_machine.specs.declared.act.Act.{Act}
-use Rattle.rule_machine.specs.declared.rules.RuleSet.{RuleSet}
+use Rattle.rule_machine.specs.declared.rule_set.RuleSet.{RuleSet}
 use Rattle.rule_machine.specs.Network.{Network, names, neighbours}
 use Rattle.rule_machine.specs.State.{State, points, married}
 use Rattle.rule_machine.specs.RuleTable.{RuleTable, rule_at}

@@ -3,7 +3,7 @@ use Rattle.std.specs.Prelude.{ℕ, List, ◌++◌, Option, None, Some, codes}
 use Rattle.std.specs.List.{flat_map}
 use Rattle.rule_machine.specs.declared.base.EpochStart.{EpochStart}
 use Rattle.rule_machine.specs.declared.base.EpochStart.TheVariants.{At, Forgotten}
-use Rattle.rule_machine.specs.declared.rules.RuleSet.{RuleSet}
+use Rattle.rule_machine.specs.declared.rule_set.RuleSet.{RuleSet}
 use Rattle.line_text.specs.Words.{number_text}
 use Rattle.auditor.specs.declared.epoch.CostedEpoch.{CostedEpoch}
 use Rattle.auditor.specs.Epochs.{bound_of}

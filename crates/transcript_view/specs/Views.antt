@@ -1,6 +1,6 @@
 -- The views of a transcript.
 use Rattle.std.specs.Prelude.{◌≡◌, ℕ, List, Option, All}
-use Rattle.rule_machine.specs.declared.rules.RuleSet.{RuleSet}
+use Rattle.rule_machine.specs.declared.rule_set.RuleSet.{RuleSet}
 use Rattle.rule_machine.specs.State.{State}
 use Rattle.auditor.specs.Damage.{IsDamage}
 use Rattle.auditor.specs.declared.epoch.CostedEpoch.{CostedEpoch}

@@ -10,7 +10,7 @@ ghost use Rattle.locked_net.specs.declared.call_fault.CallFault.TheVariants.{Beh
 
 use super::Clerk;
 use crate::CallFault;
-use crate::desk::{PublishedJournal, RecordedEvent};
+use crate::published_journal::{PublishedJournal, RecordedEvent};
 use rule_engine::{Event, Reply, Rules};
 use snapshots::Note;
 use std::sync::Wait;

@@ -11,7 +11,7 @@ ghost use Rattle.locked_net.specs.declared.call_fault.CallFault.TheVariants.{Mem
 use super::Clerk;
 use super::calls::keep;
 use crate::CallFault;
-use crate::desk::PublishedJournal;
+use crate::published_journal::PublishedJournal;
 use rule_engine::{Choice, Reply, Rules, Verdict};
 use std::sync::Wait;
 

@@ -6,7 +6,7 @@ ghost use Rattle.locked_net.specs.Receipts.{seen_by};
 ghost use Rattle.locked_net.specs.ClerkCalls.{some_of, HeldCall};
 ghost use Rattle.locked_net.specs.RoamTurns.{mover, log_after_turn, receipts_of_turn, fault_of_turn, FaultInTurn};
 
-use crate::desk::PublishedJournal;
+use crate::published_journal::PublishedJournal;
 use crate::{CallFault, Clerk, HeldNet};
 use rule_engine::{Choice, Event, Item, Node, Reply, Rules};
 use std::sync::Wait;

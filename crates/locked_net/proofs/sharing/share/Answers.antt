@@ -4,7 +4,7 @@ use Rattle.rule_machine.specs.Network.{Network}
 use Rattle.rule_machine.specs.State.{State}
 use Rattle.keyed_lock.specs.Locks.{key_of}
 use Rattle.locked_net.specs.Nets.{beginning_of, first_nodes_of, log_limit_of, name_count_of}
-use Rattle.locked_net.specs.declared.key.NetKey.{NetKey}
+use Rattle.locked_net.specs.declared.net_key.NetKey.{NetKey}
 use Rattle.locked_net.proofs.sharing.share.Goals as goal
 
 pub returns : goal.returns

@@ -1,6 +1,6 @@
 use Rattle.std.proofs.Common.{ap, ◌∙◌}
-use Rattle.charge_laws.proofs.Laws.{hsu_huang_charged}
-use Rattle.charge_laws.proofs.Tables.{hsu_huang_table}
+use Rattle.machine_laws.proofs.Laws.{hsu_huang_charged}
+use Rattle.machine_laws.proofs.Tables.{hsu_huang_table}
 use Rattle.rule_machine.specs.HsuHuang.{hsu_huang}
 use Rattle.rule_machine.specs.Network.{node_count}
 use Rattle.rule_machine.specs.State.{State}

@@ -1,6 +1,6 @@
 use Rattle.std.proofs.Common.{ap, ◌∙◌, ◌+◌, ◌*◌, ◌/◌, ℕ, ◌≡◌}
-use Rattle.charge_laws.proofs.Laws.{manne_charged}
-use Rattle.charge_laws.proofs.Tables.{manne_table}
+use Rattle.machine_laws.proofs.Laws.{manne_charged}
+use Rattle.machine_laws.proofs.Tables.{manne_table}
 use Rattle.rule_machine.specs.Manne.{manne}
 use Rattle.rule_machine.specs.Network.{Network, node_count}
 use Rattle.rule_machine.specs.State.{State}

@@ -1,4 +1,4 @@
-use Rattle.rule_machine.specs.declared.rules.RuleSet.TheVariants.{Hh, Manne}
+use Rattle.rule_machine.specs.declared.rule_set.RuleSet.TheVariants.{Hh, Manne}
 use Rattle.storm_runner.proofs.StormResults.{resumed}
 use Rattle.storm_runner.proofs.storming.resume_storm.Goals as goal
 

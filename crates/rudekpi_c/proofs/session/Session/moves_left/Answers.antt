@@ -1,6 +1,6 @@
 use Rattle.std.proofs.Common.{◌≡◌, ℕ, sym, subst}
 use Rattle.rule_machine.specs.Tables.{table_of}
-use Rattle.node_bound.specs.MovesLeft.{moves_left}
+use Rattle.move_bounds.specs.MovesLeft.{moves_left}
 use Rattle.rudekpi_c.specs.declared.session.Machine.{Machine}
 use Rattle.rudekpi_c.specs.MovesLeftCalls.{most_of}
 use Rattle.rudekpi_c.specs.Session.{stands_at, rules_at}

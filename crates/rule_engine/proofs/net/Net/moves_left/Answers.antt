@@ -1,6 +1,6 @@
 use Rattle.rule_engine.proofs.Prelude.{◌≡◌, ◌∙◌, arith, ap, sym, subst, node_count, BoundsMoves, smaller_bounds, NetView}
-use Rattle.node_bound.specs.MovesLeft.{smaller_bound}
-use Rattle.node_bound.proofs.SilentMoves.{silent_moves}
+use Rattle.move_bounds.specs.MovesLeft.{smaller_bound}
+use Rattle.move_bounds.proofs.SilentMoves.{silent_moves}
 use Rattle.containment_laws.proofs.IdleNodes.{inside_from}
 use Rattle.rule_engine.proofs.net.Net.moves_left.Goals as goal
 

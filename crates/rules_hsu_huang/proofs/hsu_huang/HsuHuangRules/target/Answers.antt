@@ -1,9 +1,9 @@
-use Rattle.charge_laws.proofs.Prelude.{◌≡◌, ◌&&◌, ◌||◌, true, None, Some, is_none, not, sym, ap, ap₂, ◌∙◌, or_left, or_right, and_from, cond-true, pointer, suits, linked, is_open, hsu_huang, hsu_huang_opens}
+use Rattle.machine_laws.proofs.ChargePrelude.{◌≡◌, ◌&&◌, ◌||◌, true, None, Some, is_none, not, sym, ap, ap₂, ◌∙◌, or_left, or_right, and_from, cond-true, pointer, suits, linked, is_open, hsu_huang, hsu_huang_opens}
 use Rattle.std.specs.Option.{option_or}
 use Rattle.std.proofs.lemmas.Bool.{false≢true}
 use Rattle.rule_machine.specs.State.{first_suitor}
 use Rattle.rule_machine.specs.RuleTable.{first_open}
-use Rattle.rules_api.specs.Target.{target_at}
+use Rattle.rule_machine.specs.Target.{target_at}
 use Rattle.rules_hsu_huang.proofs.Target.{held_target, hsu_huang_free_target, hsu_huang_free_wish}
 use Rattle.rules_hsu_huang.proofs.hsu_huang.HsuHuangRules.target.Goals as goal
 use Rattle.rules_hsu_huang.proofs.hsu_huang.HsuHuangRules.target.Goals.{then-is_suitor, else-is_suitor+then-is_none, else-is_suitor+else-is_none}

@@ -1,2 +1,0 @@
-pub mod AcceptedDraws
-pub mod Turns

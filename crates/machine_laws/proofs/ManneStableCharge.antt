@@ -1,0 +1,100 @@
+-- The rest of Manne's charge in a stable network: one for each node that is in no pair.
+use Rattle.machine_laws.proofs.ChargePrelude.{◌≡◌, ℕ, ◌+◌, ◌*◌, ◌≤◌, Bool, true, cond, not, ◌&&◌, ◌||◌, List, [], ◌∷◌, length, filter_map, count_by, sum_by, nat_lt, Option, None, Some, false, is_some, IsTrue, refl, sym, ap, ◌∙◌, arith, cons_option, not_from_true, sum_by-cons, names, neighbours, edge_list, node_count, State, IsState, is_at, holds_at, pointer, points, flag, partner, married, has_suitor, manne_closed, manne_node_charge, manne_charge, IsStable, pair_above, mutual_pairs, partner_some, partner_from}
+use Rattle.machine_laws.proofs.ListCounts.{IsIn, count_all, count_agree, sum_agree, sum_add, sum_le, none_count}
+use Rattle.machine_laws.proofs.Members.{names_present, names_len}
+use Rattle.machine_laws.proofs.EdgesByNodes.{edges_by_nodes}
+use Rattle.machine_laws.proofs.EdgesByNodes.{by_both}
+use Rattle.machine_laws.proofs.ClosedByPointers.{target_counted}
+use Rattle.machine_laws.proofs.Stances.{married_is}
+use Rattle.machine_laws.proofs.StableCharge.{none_unanswered, an_end_paired}
+use Rattle.machine_laws.proofs.PaidMoves.{bit, IsSeen, seen}
+
+-- sums of terms that agree on the list's elements
+sum_agree_in : {X : Type 0} (f g : X → ℕ) (xs : List X) → ((x : X) → IsIn x xs → f x ≡ g x) → sum_by f xs ≡ sum_by g xs
+sum_agree_in f g xs same = grind (arith, sum_le)
+
+-- the charge is the number of nodes that are not married
+pub manne_stable_leaves : (s : State) → IsState s → IsStable true s → manne_charge s ≡ count_by (λ v. not (married s v)) (names s.network)
+manne_stable_leaves s good stable =
+    let unanswered = none_unanswered true s stable in
+    let open_edges = none_count (λ e. not (manne_closed s e)) (edge_list s.network) (λ e there. not_from_true (manne_closed s e) (an_end_paired true s good stable e there (IsTrue (manne_closed s e))
+    (λ h. low (married s e.0) (married s e.1) _ (married_is s e.0 good ∙ h))
+    (λ h. high (married s e.0) (married s e.1) _ (married_is s e.1 good ∙ h)))) in
+    let nodes = sum_agree_in (manne_node_charge s) (λ v. cond (not (married s v)) 1 0) (names s.network) (λ v there. one (married s v) (flag s v) (stable.flagged refl v (names_present s.network v there))) in
+    omega (arith, unanswered, open_edges, nodes)
+  where
+    low : (m n o : Bool) → m ≡ true → IsTrue (m || n || o)
+    low m n o h = grind arith
+
+    high : (m n o : Bool) → n ≡ true → IsTrue (m || n || o)
+    high m n o h = grind arith
+
+    one : (m f : Bool) → f ≡ m → ◌≡◌ {A = ℕ} (cond m (cond f 0 1) (cond f 2 1)) (cond (not m) 1 0)
+    one m f e = grind arith
+
+-- ---- married nodes are twice the pairs
+
+filter_map_len : {X Y : Type 0} (h : X → Option Y) (xs : List X) → length (filter_map h xs) ≡ count_by (λ x. is_some (h x)) xs
+filter_map_len h [] = refl
+filter_map_len {X = X} {Y = Y} h (x ∷ xs) =
+    let whole = sum_by-cons (λ y. cond (is_some (h y)) 1 0) x xs in
+    let rest = filter_map_len h xs in
+    let head = kept (h x) (filter_map h xs) in
+    omega (arith, whole, rest, head)
+  where
+    kept : (o : Option Y) (ys : List Y) → length (cons_option o ys) ≡ cond (is_some o) 1 0 + length ys
+    kept o ys = grind arith
+
+-- v and w point at each other
+abbrev both : State → ℕ × ℕ → Bool
+both s e = points s.registers e.0 e.1 && points s.registers e.1 e.0
+
+-- a married node is in one pair, and its partner is above it or not
+wed_at : (s : State) (v : ℕ) → IsState s → count_by (λ w. both s (v, w)) (neighbours s.network v) ≡ bit (married s v)
+wed_at s v good = target_counted s good (λ w. points s.registers w v) v ∙ ap bit (sym (at (pointer s) (married s) (has_suitor s) (seen s good)))
+  where
+    at : (p : ℕ → Option ℕ) (m c : ℕ → Bool) → IsSeen p m c → m v ≡ holds_at (λ w. is_at (p w) v) (p v)
+    at p m c old = grind (arith, old.wed v, old.weds v)
+
+lower_at : (s : State) (v : ℕ) → IsState s → count_by (λ w. nat_lt v w && both s (v, w)) (neighbours s.network v) ≡ bit (is_some (pair_above v (partner s v)))
+lower_at s v good =
+    count_agree (λ w. nat_lt v w && both s (v, w)) (λ w. points s.registers v w && (nat_lt v w && points s.registers w v)) (λ w. order (nat_lt v w) (points s.registers v w) (points s.registers w v)) (neighbours s.network v)
+    ∙ target_counted s good (λ w. nat_lt v w && points s.registers w v) v
+    ∙ ap bit (sym (at (pointer s) (partner s v) (partner_some s v) (λ w. partner_from s v w good)))
+  where
+    miss : (p : ℕ → Option ℕ) → ((w : ℕ) → p v ≡ Some w → p w ≡ Some v → None ≡ Some w) → false ≡ holds_at (λ w. nat_lt v w && is_at (p w) v) (p v)
+    miss p from = grind arith
+
+    hit : (p : ℕ → Option ℕ) (x : ℕ) → p v ≡ Some x → p x ≡ Some v → is_some (pair_above v (Some x)) ≡ holds_at (λ w. nat_lt v w && is_at (p w) v) (p v)
+    hit p x there back = grind arith
+
+    order : (l p q : Bool) → (l && (p && q)) ≡ (p && (l && q))
+    order l p q = grind arith
+
+    at : (p : ℕ → Option ℕ) (o : Option ℕ) → ((w : ℕ) → o ≡ Some w → (p v ≡ Some w) × (p w ≡ Some v)) → ((w : ℕ) → p v ≡ Some w → p w ≡ Some v → o ≡ Some w) → is_some (pair_above v o) ≡ holds_at (λ w. nat_lt v w && is_at (p w) v) (p v)
+    at p None some from = miss p from
+    at p (Some x) some from = hit p x (some x refl).0 (some x refl).1
+
+-- Each pair has two married nodes, and each married node is in one.
+pub married_are_pairs : (s : State) → IsState s → count_by (λ v. not (married s v)) (names s.network) + 2 * length (mutual_pairs s) ≡ node_count s.network
+married_are_pairs s good =
+    let pairs = filter_map_len (λ v. pair_above v (partner s v)) (names s.network) in
+    let lower = sum_agree (λ v. count_by (λ w. nat_lt v w && both s (v, w)) (neighbours s.network v)) (λ v. bit (is_some (pair_above v (partner s v)))) (λ v. lower_at s v good) (names s.network) in
+    let wed = sum_agree (λ v. count_by (λ w. both s (v, w)) (neighbours s.network v)) (λ v. bit (married s v)) (λ v. wed_at s v good) (names s.network) in
+    let back = count_agree (λ e. both s (e.1, e.0)) (both s) (λ e. swap (points s.registers e.1 e.0) (points s.registers e.0 e.1)) (edge_list s.network) in
+    let each = sum_agree (λ v. bit (not (married s v)) + bit (married s v)) (λ v. bit true) (λ v. one (married s v)) (names s.network) in
+    omega (arith, pairs, lower, wed, back, each, sum_add (λ v. bit (not (married s v))) (λ v. bit (married s v)) (names s.network), by_both s.network good.is_network (λ v w. both s (v, w)), edges_by_nodes s.network good.is_network (both s), count_all (names s.network), names_len s.network)
+  where
+    swap : (p q : Bool) → (p && q) ≡ (q && p)
+    swap p q = grind arith
+
+    one : (m : Bool) → bit (not m) + bit m ≡ bit true
+    one m = grind arith
+
+-- So nodes in pairs plus the rest of the charge are all nodes.
+pub manne_stable_charge : (s : State) → IsState s → IsStable true s → manne_charge s + 2 * length (mutual_pairs s) ≡ node_count s.network
+manne_stable_charge s good stable = grind (arith, manne_stable_leaves, married_are_pairs)
+
+-- Each unmarried node adds one to the charge at least.
+pub unmarried_charge : (s : State) → count_by (λ v. not (married s v)) (names s.network) ≤ manne_charge s
+unmarried_charge s = grind (arith, sum_le)

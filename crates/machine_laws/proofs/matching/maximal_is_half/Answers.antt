@@ -1,0 +1,5 @@
+use Rattle.machine_laws.proofs.HalfMatchings as half
+use Rattle.machine_laws.proofs.matching.maximal_is_half.Goals as goal
+
+pub returns : goal.returns
+returns c = half.maximal_is_half

@@ -1,0 +1,3 @@
+pub mod SilentMoves
+pub mod SmallerBound
+pub mod Counting

@@ -1,0 +1,4 @@
+pub mod MovesLeft
+pub mod FromSilence
+pub mod Present
+pub mod Unmarried

@@ -1,2 +1,0 @@
-pub mod SilentMoves
-pub mod SmallerBound

@@ -1,5 +1,0 @@
-use Rattle.rudekpi_c.proofs.AuditVerdicts.{judged_as}
-use Rattle.rudekpi_c.proofs.judged.rudekpi_audit.Goals as goal
-
-pub returns : goal.returns
-returns c = judged_as c.args.bytes.now c.audit_bytes.result c.told.result c.told.ensures c.audit_bytes.ensures.judged c.audit_bytes.ensures.accepts_runs c.audit_bytes.ensures.names_damage

@@ -1,0 +1,8 @@
+use Rattle.std.proofs.Common.{◌↔◌, map, drop}
+use Rattle.std.specs.List.{AllByRecursion}
+use Rattle.line_text.specs.EventText.{IsItem}
+use Rattle.rudekpi_c.specs.CommandCalls.{item_named}
+use Rattle.rudekpi_c.proofs.request.are_items.Given as goal
+
+abbrev pub invariant-loop-one : goal.invariant-loop-one
+invariant-loop-one l = AllByRecursion IsItem (map item_named (drop l.one-index l.chosen)) ↔ AllByRecursion IsItem (map item_named l.chosen)

@@ -1,3 +1,0 @@
-pub mod FromSilence
-pub mod Present
-pub mod Unmarried
