@@ -18,7 +18,6 @@ mod chosen;
 mod judged;
 mod lone;
 mod looks;
-mod seen_reach;
 
 /// A network whose lock the caller has until `free`. Cannot be dropped: `free` ends it.
 /// Contracts see the whole published log from its beginning, dropped entries included; the base of the kept

@@ -3,8 +3,6 @@
 ghost use Rattle.std.specs.Prelude.{◌≡◌, ◌+◌, ◌↔◌, [], length, IfOk, IfSome, OnOk, OnErr, IsErrOf, IsTrue};
 ghost use Rattle.rule_machine.specs.declared.event.Event.TheVariants.{Step};
 ghost use Rattle.rule_engine.specs.ChoiceMoves.{verdicts_of};
-ghost use Rattle.rule_engine.specs.Costs.{disturbance_cost, BoundsGrowth};
-ghost use Rattle.rule_engine.specs.DisturbanceReach.{reach_of, Spares};
 ghost use Rattle.step_log.specs.declared.fault.RecordFault.TheVariants.{LogFull};
 ghost use Rattle.step_log.specs.JournalViews.{IsNextReceipt, kept_of};
 ghost use Rattle.snapshots.specs.Row.{IsRun};
@@ -13,8 +11,7 @@ ghost use Rattle.locked_net.specs.WholeLogs.{IsWholeLog};
 ghost use Rattle.locked_net.specs.RetainedParts.{IsLogAboveBase, log_over};
 ghost use Rattle.locked_net.specs.PublishedJournals.{IsPublishedJournal, based, KeepsKey};
 
-use crate::SeenCost;
-use rule_engine::{Choice, Event, Net, Node, Reply, Rules, Verdict, Want};
+use rule_engine::{Choice, Event, Net, Reply, Rules, Verdict, Want};
 use rule_machine::Base;
 use snapshots::{Board, NoPlace, Note, Reader, Runs};
 use std::alloc::{AllocError, Global};
@@ -101,6 +98,7 @@ impl<R: Rules> PublishedJournal<R> {
 
     pub(crate) fn net(&self) -> &Net<R>
         ensures state { result.now.state ≡ self.now.log.state }
+        ensures spent { result.now.spent ≡ self.now.log.spent }
         ensures run { IsWholeLog R.table self.now.log }
     {
         self.journal.net()
@@ -110,25 +108,6 @@ impl<R: Rules> PublishedJournal<R> {
         ensures { (result.log ≡ self.now.log.entries) × (result.book ≡ self.now.name.book) × (result.base ≡ self.now.name.extent.base) }
     {
         self.board.note()
-    }
-
-    pub(crate) fn cost_of(&self, event: &Event) -> SeenCost
-        ensures cost { result.cost ≡ disturbance_cost R.table R.cost self.now.log.state event.now }
-        ensures grows { BoundsGrowth R.table self.now.log.state self.now.log.spent event.now result.cost }
-        ensures note { (result.note.log ≡ self.now.log.entries) × (result.note.book ≡ self.now.name.book) × (result.note.base ≡ self.now.name.extent.base) }
-        ensures run { IsWholeLog R.table self.now.log }
-    {
-        SeenCost {
-            cost: self.journal.cost_of(event),
-            note: self.note(),
-        }
-    }
-
-    pub(crate) fn reach_of(&self, event: &Event) -> Result<Vec<Node>, Want>
-        ensures reach { IfOk result (λ list. list.items ≡ reach_of R.table self.now.log.state event.now) }
-        ensures spares { IfOk result (λ list. Spares R.table self.now.log.state self.now.log.spent event.now list.items) }
-    {
-        self.journal.reach_of(event)
     }
 
     /// After a fault nothing has changed.

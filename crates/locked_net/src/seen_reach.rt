@@ -34,7 +34,10 @@ impl<R: Rules> LockedNet<R> {
         ensures { IsRestSeen (setting_of R.table self.now) (book_of self.now) v result.rests result.note }
     {
         let held = self.hold(rt);
-        let seen = held.is_at_rest(v);
+        let seen = SeenRest {
+            rests: held.net().is_at_rest(v),
+            note: held.note(),
+        };
         held.free();
         seen
     }
@@ -46,8 +49,12 @@ impl<R: Rules> LockedNet<R> {
         ensures { IfOk result (λ seen. IsReachSeen (setting_of R.table self.now) (book_of self.now) event.now seen.nodes.items seen.note) }
     {
         let held = self.hold(rt);
-        let seen = held.reach_of(event);
+        let nodes = held.net().reach_of(event);
+        let note = held.note();
         held.free();
-        seen
+        Ok(SeenReach {
+            nodes: nodes?,
+            note,
+        })
     }
 }

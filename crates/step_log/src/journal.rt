@@ -3,12 +3,7 @@
 ghost use Rattle.std.specs.Prelude.{◌≡◌, ◌<◌, ◌≤◌, ◌+◌, ◌-◌, ◌*◌, ◌⊎◌, ◌↔◌, All, length, min, IfOk, IfErr, OnOk, OnErr, IsErrOf, IsTrue, None, Some, slice_get, vec_capacity};
 ghost use Rattle.graph_store.specs.Fault.{nodes_fault, ExplainsGraphFault};
 ghost use Rattle.rule_machine.specs.declared.event.Event.TheVariants.{Step};
-ghost use Rattle.rule_machine.specs.RuleTable.{rule_at};
 ghost use Rattle.rule_engine.specs.ChoiceMoves.{verdicts_of};
-ghost use Rattle.rule_engine.specs.Costs.{disturbance_cost, BoundsGrowth};
-ghost use Rattle.rule_engine.specs.DisturbanceReach.{reach_of, Spares};
-ghost use Rattle.containment_laws.specs.Reach.{reach_size};
-ghost use Rattle.containment_laws.specs.Rest.{is_at_rest};
 ghost use Rattle.step_log.specs.declared.fault.RecordFault.TheVariants.{LogFull};
 ghost use Rattle.step_log.specs.declared.fault.NoEntry.TheVariants.{Forgotten, Beyond};
 ghost use Rattle.step_log.specs.Epochs.{AreEpochs, IsEpochWithinBound};
@@ -144,7 +139,8 @@ impl<R: Rules> Journal<R> {
         }
     }
 
-    /// The network after all entries.
+    /// The network after all entries, for looks at it: `Net::spent`, `cost_of`, `silent_cost_of`, `is_at_rest`,
+    /// `reach_of`.
     pub fn net(&self) -> &Net<R>
         ensures state { result.now.state ≡ self.now.state }
         ensures spent { result.now.spent ≡ self.now.spent }
@@ -163,41 +159,6 @@ impl<R: Rules> Journal<R> {
         ensures kept { self.new ≡ self.old }
     {
         self.net.charge()
-    }
-
-    /// The moves since the last accepted disturbance, or since the start. See `Net::spent`.
-    pub fn spent(&self) -> u32
-        ensures count { result ≡ self.now.spent }
-        ensures bound { self.now.spent + R.table.charge self.now.state ≤ 2 * edge_count self.now.state.network + R.NODE_WEIGHT * node_count self.now.state.network }
-    {
-        self.net.spent()
-    }
-
-    /// The most that an event, if it were recorded now, would add to the charge, in moves.
-    /// Records nothing. See `Net::cost_of`, also for the cost.
-    pub fn cost_of(&self, event: &Event) -> u32
-        ensures cost { result ≡ disturbance_cost R.table R.cost self.now.state event.now }
-        ensures grows { BoundsGrowth R.table self.now.state self.now.spent event.now result }
-    {
-        self.net().cost_of(event)
-    }
-
-    /// Whether a node is at rest. Records nothing. See `Net::is_at_rest`, also for the cost.
-    pub fn is_at_rest(&self, v: Node) -> bool
-        ensures rests { result ≡ is_at_rest R.table.flags self.now.state v }
-        ensures idle { IsTrue result → rule_at R.table self.now.state v ≡ None }
-    {
-        self.net().is_at_rest(v)
-    }
-
-    /// The nodes, ascending, that an event would reach if it were recorded now. Records nothing.
-    /// `AllocError` if memory runs out. See `Net::reach_of`, also for the cost.
-    pub fn reach_of(&self, event: &Event) -> Result<Vec<Node>, Want>
-        ensures reach { IfOk result (λ list. list.items ≡ reach_of R.table self.now.state event.now) }
-        ensures few { IfOk result (λ list. length list.items ≤ reach_size self.now.state event.now) }
-        ensures spares { IfOk result (λ list. Spares R.table self.now.state self.now.spent event.now list.items) }
-    {
-        self.net().reach_of(event)
     }
 
     /// The epochs of the log, in order. The last epoch ends now.

@@ -30,7 +30,6 @@ mod receipt;
 mod recorder;
 mod renumber;
 mod rounds;
-mod silence;
 mod start_fault;
 
 pub use epoch::Epoch;

@@ -125,7 +125,8 @@ impl<R: Rules> Recorder<R> {
         self.len >= self.limit
     }
 
-    /// The network after all entries.
+    /// The network after all entries, for looks at it: `Net::spent`, `cost_of`, `silent_cost_of`, `is_at_rest`,
+    /// `reach_of`.
     pub fn net(&self) -> &Net<R>
         ensures state { result.now.state ≡ self.now.state }
         ensures spent { result.now.spent ≡ self.now.spent }
@@ -140,14 +141,6 @@ impl<R: Rules> Recorder<R> {
         ensures kept { self.new ≡ self.old }
     {
         self.net.charge()
-    }
-
-    /// The moves since the last accepted disturbance, or since the start. See `Net::spent`.
-    pub fn spent(&self) -> u32
-        ensures count { result ≡ self.now.spent }
-        ensures bound { self.now.spent + R.table.charge self.now.state ≤ 2 * edge_count self.now.state.network + R.NODE_WEIGHT * node_count self.now.state.network }
-    {
-        self.net.spent()
     }
 
     /// Carries out an event, writes the reply into `reply`, and appends the entry's text with an LF.

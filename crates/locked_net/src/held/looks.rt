@@ -1,21 +1,19 @@
 //! Looks at a network whose lock is held.
 
 ghost use Rattle.std.specs.Prelude.{◌≡◌, IfOk};
-ghost use Rattle.rule_engine.specs.Costs.{disturbance_cost, BoundsGrowth};
 
-use crate::{HeldNet, SeenCost};
-use rule_engine::{Event, Rules};
+use crate::HeldNet;
+use rule_engine::{Net, Rules};
 use snapshots::{NoPlace, Note, Reader, Runs};
 use std::sync::Wait;
 
 impl<R: Rules> HeldNet<'_, R> {
-    /// What an event would cost, with a note of the log: `LockedNet::cost_of` under a held lock.
-    pub fn cost_of(&self, event: &Event) -> SeenCost
-        ensures cost { result.cost ≡ disturbance_cost R.table R.cost self.now.log.state event.now }
-        ensures grows { BoundsGrowth R.table self.now.log.state self.now.log.spent event.now result.cost }
-        ensures note { (result.note.log ≡ self.now.log.entries) × (result.note.book ≡ self.now.name.book) }
+    /// The network after the whole log, for looks at it: `Net::cost_of`, `is_at_rest`, `reach_of`.
+    pub fn net(&self) -> &Net<R>
+        ensures state { result.now.state ≡ self.now.log.state }
+        ensures spent { result.now.spent ≡ self.now.log.spent }
     {
-        self.desk.cost_of(event)
+        self.desk.net()
     }
 
     /// A note of what is published: the whole log under the lock. Takes no memory.
