@@ -1,6 +1,6 @@
 //! The state of a network under a rule set, and the code that carries out events on it.
 
-ghost use Rattle.std.specs.Prelude.{All, ◌≡◌, ◌<◌, ◌≤◌, ◌↔◌, ℕ, [], IfOk, IfErr, IfSome, OnOk, IsTrue, None, false, length, slice_get};
+ghost use Rattle.std.specs.Prelude.{All, ◌≡◌, ◌<◌, ◌≤◌, ◌↔◌, ℕ, [], IfOk, IfErr, OnOk, IsTrue, None, false, length};
 ghost use Rattle.enabled_set.specs.Members.{members};
 ghost use Rattle.graph_store.specs.Fault.{nodes_fault, ExplainsGraphFault};
 ghost use Rattle.rule_machine.specs.State.{opening_with, IsState};
@@ -13,14 +13,13 @@ ghost use Rattle.rule_machine.specs.Stable.{IsStable, IsMaximalMatching, mutual_
 ghost use Rattle.machine_laws.specs.StatesAfterReplies.{disturbed};
 ghost use Rattle.rule_machine.specs.declared.event.Event.TheVariants.{Link, Step, Show, Enabled, Matching, Status, Join, Leave};
 ghost use Rattle.rule_machine.specs.declared.reply.Reply.TheVariants.{Accepted};
-ghost use Rattle.rule_engine.specs.EngineStates.{guard_at, IsAnswered};
+ghost use Rattle.rule_engine.specs.EngineStates.{IsAnswered};
 ghost use Rattle.rule_engine.specs.EventReplies.{Prepares, stored_reply};
-ghost use Rattle.rule_engine.specs.Costs.{disturbance_cost};
 ghost use Rattle.rule_engine.specs.DisturbanceReach.{would_reach, reach_of};
 ghost use Rattle.containment_laws.specs.Reach.{reach_size};
 ghost use Rattle.containment_laws.specs.Rest.{is_at_rest};
 ghost use Rattle.rule_engine.specs.PreparedEvents.{HasRoomTo};
-ghost use Rattle.rule_engine.specs.ChoiceMoves.{verdict_of, verdicts_of};
+ghost use Rattle.rule_engine.specs.ChoiceMoves.{verdicts_of};
 
 use crate::Derived;
 use crate::charge::totals_of;
@@ -29,17 +28,15 @@ use crate::edits::{
     put, put_edit, refusal_of, refused_flag, refused_join, refused_leave, refused_point,
     refused_unlink,
 };
-use crate::guard::{outcome, put_reply_to_one, rule_enabled, take_items};
+use crate::guard::{put_reply_to_one, take_items};
 use crate::listing::{enabled_rules, mutual_edges};
 use crate::reach::{reach_of, would_reach};
 use crate::taking::{refused_size, take_verdicts};
-use crate::touched_nodes::cost_of;
 use enabled_set::{EnabledSet, Marks};
-use graph_store::{EdgeStore, GraphFault};
+use graph_store::GraphFault;
 use net_state::{NetState, join, leave, link_reserved, make_moves, set_flag, set_pointer, unlink};
-use registers::Registers;
 use rule_machine::{
-    Act, Choice, Counts, Event, Listing, Moved, Node, Refusal, Reply, Rules, Verdict, Want,
+    Choice, Counts, Event, Listing, Moved, Node, Refusal, Reply, Rules, Verdict, Want,
 };
 use std::alloc::{AllocError, Global};
 use std::marker::Model;
@@ -116,20 +113,6 @@ impl<R: Rules> Engine<R> {
         IndexedNet::new(&self.net, &self.derived.suitors)
     }
 
-    pub(crate) fn store(&self) -> &EdgeStore
-        ensures network { result.now.network ≡ self.now.state.network }
-        ensures room { result.now.room ≡ self.now.room }
-    {
-        self.net.store()
-    }
-
-    pub(crate) fn registers(&self) -> &Registers
-        ensures value { result.now ≡ self.now.state.registers }
-        ensures state { IsState self.now.state }
-    {
-        self.net.registers()
-    }
-
     pub(crate) fn enabled(&self) -> &EnabledSet
         ensures { members result.now ≡ enabled_names R.table self.now.state }
     {
@@ -143,12 +126,6 @@ impl<R: Rules> Engine<R> {
         ensures only_stable { IsAnswered R.table.flags self.now.state → IsMaximalMatching self.now.state.network (mutual_pairs self.now.state) → IsTrue result }
     {
         self.derived.enabled.count() == 0
-    }
-
-    pub(crate) fn cost_of(&self, event: &Event) -> u32
-        ensures { result ≡ disturbance_cost R.table R.cost self.now.state event.now }
-    {
-        cost_of(&self.index(), event)
     }
 
     pub(crate) fn would_reach(&self, event: &Event, v: Node) -> bool
@@ -168,24 +145,6 @@ impl<R: Rules> Engine<R> {
         ensures { result ≡ is_at_rest R.table.flags self.now.state v }
     {
         containment::is_at_rest(&self.net, R::FLAGS, v)
-    }
-
-    pub(crate) fn guard(&self, v: Node) -> Option<Act>
-        ensures { result ≡ guard_at R.table self.now.state v }
-    {
-        rule_enabled(&self.index(), v)
-    }
-
-    pub(crate) fn verdict(&self, choice: &Choice, place: u32) -> Verdict
-        requires { place < length choice.now }
-        ensures { IfSome (slice_get choice.now place) (λ item. result ≡ verdict_of R.table self.now.state place item) }
-    {
-        let item = choice.items()[place as usize];
-        Verdict {
-            place,
-            node: item.node,
-            outcome: outcome(&self.index(), item),
-        }
     }
 
     pub(crate) fn charge(&mut self) -> u32
@@ -209,11 +168,14 @@ impl<R: Rules> Engine<R> {
     {
         match event {
             Event::Link(a, b) => self.prepare_link(*a, *b, reply),
-            Event::Unlink(a, b) => put_edit(reply, refused_unlink(self.store(), *a, *b)),
-            Event::Point(v, target) => put_edit(reply, refused_point(self.store(), *v, *target)),
-            Event::Flag(v, _) => put_edit(reply, refused_flag::<R>(self.store(), *v)),
-            Event::Join(v) => put_edit(reply, refused_join(self.store(), *v)),
-            Event::Leave(v) => put_edit(reply, refused_leave(self.store(), *v)),
+            Event::Unlink(a, b) => put_edit(reply, refused_unlink(self.net.store(), *a, *b)),
+            Event::Point(v, target) => put_edit(
+                reply,
+                refused_point(self.net.store(), *v, *target),
+            ),
+            Event::Flag(v, _) => put_edit(reply, refused_flag::<R>(self.net.store(), *v)),
+            Event::Join(v) => put_edit(reply, refused_join(self.net.store(), *v)),
+            Event::Leave(v) => put_edit(reply, refused_leave(self.net.store(), *v)),
             Event::Step(choice) => self.prepare_choice(choice, reply),
             Event::Show(v) => {
                 self.show(*v, reply);

@@ -57,9 +57,9 @@ fn is_within<R: Rules>(engine: &mut Engine<R>, spent: u32) -> bool
     ensures kept { engine.new.state ≡ engine.old.state }
 {
     // Gives the prover `IsState`.
-    let _ = engine.registers();
+    let _ = engine.net();
     let charge = u64::from(engine.charge());
-    let store = engine.store();
+    let store = engine.net().store();
     prove!(store.nodes() <= MAX_NAME && store.edges() <= MAX_EDGES);
     let bound = 2 * u64::from(store.edges()) + R::NODE_WEIGHT * u64::from(store.nodes());
     u64::from(spent) + charge <= bound

@@ -26,6 +26,8 @@ ghost use Rattle.rule_engine.specs.PreparedEvents.{IsPrepared, net_moment};
 
 use crate::charge::spent_after;
 use crate::engine::Engine;
+use crate::guard::{outcome, rule_enabled};
+use crate::touched_nodes::cost_of;
 use enabled_set::EnabledSet;
 use graph_store::{EdgeStore, GraphFault};
 use net_state::NetState;
@@ -111,7 +113,7 @@ impl<R: Rules> Net<R> {
         ensures network { result.now.network ≡ self.now.state.network }
         ensures room { result.now.room ≡ self.now.room }
     {
-        self.engine.store()
+        self.engine.net().store()
     }
 
     /// The registers.
@@ -119,7 +121,7 @@ impl<R: Rules> Net<R> {
         ensures value { result.now ≡ self.now.state.registers }
         ensures state { IsState self.now.state }
     {
-        self.engine.registers()
+        self.engine.net().registers()
     }
 
     /// The enabled nodes.
@@ -150,7 +152,7 @@ impl<R: Rules> Net<R> {
     pub fn guard(&self, v: Node) -> Option<Act>
         ensures { result ≡ guard_at R.table self.now.state v }
     {
-        self.engine.guard(v)
+        rule_enabled(&self.engine.index(), v)
     }
 
     /// What the item at index `place` of a choice, from 0, would do alone.
@@ -159,7 +161,12 @@ impl<R: Rules> Net<R> {
         requires { place < length choice.now }
         ensures { IfSome (slice_get choice.now place) (λ item. result ≡ verdict_of R.table self.now.state place item) }
     {
-        self.engine.verdict(choice, place)
+        let item = choice.items()[place as usize];
+        Verdict {
+            place,
+            node: item.node,
+            outcome: outcome(&self.engine.index(), item),
+        }
     }
 
     /// The charge, which is the potential, at most 2,293,757.
@@ -184,8 +191,8 @@ impl<R: Rules> Net<R> {
         ensures grows { BoundsGrowth R.table self.now.state self.now.spent event.now result }
     {
         // Called only for the contract: the state is sound.
-        let _ = self.engine.registers();
-        self.engine.cost_of(event)
+        let _ = self.engine.net();
+        cost_of(&self.engine.index(), event)
     }
 
     /// Whether `v` is at rest: no rule is enabled at `v`, and none will be until a disturbance reaches `v`.
@@ -221,7 +228,7 @@ impl<R: Rules> Net<R> {
         ensures spares { IfOk result (λ list. Spares R.table self.now.state self.now.spent event.now list.items) }
     {
         // Called only for the contract: the state is sound.
-        let _ = self.engine.registers();
+        let _ = self.engine.net();
         self.engine.reach_of(event)
     }
 
@@ -302,7 +309,7 @@ impl<R: Rules> Net<R> {
         ensures machine { Answers R.table self.old.state self.old.spent event.now reply.now self.new.state }
     {
         self.engine.commit(event, reply);
-        self.spent = spent_after::<R>(self.engine.store(), self.spent, reply);
+        self.spent = spent_after::<R>(self.engine.net().store(), self.spent, reply);
     }
 
     /// Carries out an event (an edit, a fault, a step or a query), and returns the reply.
@@ -389,6 +396,6 @@ impl<R: Rules> Net<R> {
         ensures { net_moment self.new ≡ moment_after R.table (net_moment self.old) (Step choice.now) }
     {
         self.engine.commit_step(choice, reply);
-        self.spent = spent_after::<R>(self.engine.store(), self.spent, reply);
+        self.spent = spent_after::<R>(self.engine.net().store(), self.spent, reply);
     }
 }
