@@ -1,13 +1,11 @@
 //! Carrying out a command in a run.
 
 ghost use Rattle.std.specs.Prelude.{◌≡◌, OnOk};
-ghost use Rattle.rule_engine.specs.Costs.{disturbance_cost};
 ghost use Rattle.rule_machine.specs.State.{partner, pointer_of};
-ghost use Rattle.run_session.specs.Line.{recording_moment, progress_of, CommandEnds};
+ghost use Rattle.run_session.specs.Line.{progress_of, CommandEnds};
 ghost use Rattle.rule_machine.specs.declared.reply.Reply.TheVariants.{Accepted};
 ghost use Rattle.script_text.specs.declared.command.Command.TheVariants.{Tell, Checkpoint};
 ghost use Rattle.rudekpi_c.specs.CommandCalls.{number_at, reply_kept};
-ghost use Rattle.rudekpi_c.specs.CostCalls.{GrowsBy};
 ghost use Rattle.rudekpi_c.specs.SilentDrives.{Silences};
 
 use registers::Registers;
@@ -114,11 +112,4 @@ pub(crate) fn partner<R: Rules>(run: &Run<R>, v: Node) -> Option<Node>
         return Some(w);
     }
     None
-}
-
-pub(crate) fn cost_of<R: Rules>(run: &Run<R>, event: &Event) -> u32
-    ensures cost { result ≡ disturbance_cost R.table R.cost run.now.recorder.state event.now }
-    ensures grows { GrowsBy R.table (recording_moment run.now.recorder) event.now result }
-{
-    run.recorder.net().cost_of(event)
 }

@@ -2,7 +2,6 @@
 
 ghost use Rattle.std.specs.Prelude.{◌≡◌, ◌≤◌, ◌++◌, SomeIff, IfOk, IsTrue, length, drop};
 ghost use Rattle.containment_laws.specs.Rest.{is_at_rest};
-ghost use Rattle.rule_engine.specs.DisturbanceReach.{reach_of};
 ghost use Rattle.rule_machine.specs.State.{IsState};
 ghost use Rattle.rule_machine.specs.Tables.{table_of};
 ghost use Rattle.rule_machine.specs.declared.event.Event.{Event};
@@ -32,12 +31,6 @@ fn rests<R: Rules>(run: &Run<R>, v: Node) -> bool
     net.is_at_rest(v)
 }
 
-fn reach_in<R: Rules>(run: &Run<R>, event: &Event) -> Result<Vec<Node>, Want>
-    ensures { IfOk result (λ list. list.items ≡ reach_of R.table run.now.recorder.state event.now) }
-{
-    run.recorder.net().reach_of(event)
-}
-
 impl Session {
     pub(crate) fn is_at_rest(&self, v: Node) -> bool
         ensures rests { result ≡ rests_at self.now v }
@@ -53,8 +46,8 @@ impl Session {
         ensures { IfOk result (λ list. list.items ≡ reach_at self.now event.now) }
     {
         match &self.machine {
-            Machine::Hh(run) => reach_in(run, event),
-            Machine::Manne(run) => reach_in(run, event),
+            Machine::Hh(run) => run.recorder.net().reach_of(event),
+            Machine::Manne(run) => run.recorder.net().reach_of(event),
         }
     }
 }

@@ -34,13 +34,6 @@ fn count_rounds<R: Rules>(run: &mut Run<R>, alloc: Global) -> Result<(), Want>
     run.recorder.count_rounds(alloc)
 }
 
-fn rounds<R: Rules>(run: &Run<R>) -> Option<u32>
-    ensures rounds { result ≡ rounds_of run.now.recorder.counting }
-    ensures some { IfSome run.now.recorder.counting (λ count. HasRounds R.table (recording_moment run.now.recorder) count) }
-{
-    run.recorder.rounds()
-}
-
 /// At most as many rounds as moves can still come.
 fn rounds_left<R: NodeBound>(run: &mut Run<R>, most: u32) -> Option<u32>
     requires { BoundsRounds R.table run.old.recorder.state.network most }
@@ -90,8 +83,8 @@ impl Session {
         ensures some { IfSome (stands self.now).counting (λ count. HasRounds (table_of (rules_of self.now)) (stands self.now).moment count) }
     {
         match &self.machine {
-            Machine::Hh(run) => rounds(run),
-            Machine::Manne(run) => rounds(run),
+            Machine::Hh(run) => run.recorder.rounds(),
+            Machine::Manne(run) => run.recorder.rounds(),
         }
     }
 

@@ -11,8 +11,7 @@ ghost use Rattle.rudekpi_c.specs.MovesLeftCalls.{left_at, IsMost};
 ghost use Rattle.rudekpi_c.specs.SilentDrives.{LineSilences, Silences};
 ghost use Rattle.rudekpi_c.specs.Session.{stands, limit_of, rules_of, with_text_if, LineEnded, CommandEnded};
 
-use crate::follow::{cost_of, follow, partner, unanswered};
-use crate::left::moves_left;
+use crate::follow::{follow, partner, unanswered};
 use rule_machine::{Event, Node, RuleSet, Want};
 use rules_hsu_huang::HsuHuang;
 use rules_manne::Manne;
@@ -114,8 +113,8 @@ impl Session {
         ensures grows { GrowsBy (table_of (rules_of self.now)) (stands self.now).moment event.now result }
     {
         match &self.machine {
-            Machine::Hh(run) => cost_of(run, event),
-            Machine::Manne(run) => cost_of(run, event),
+            Machine::Hh(run) => run.recorder.net().cost_of(event),
+            Machine::Manne(run) => run.recorder.net().cost_of(event),
         }
     }
 
@@ -125,8 +124,8 @@ impl Session {
         ensures kept { self.new ≡ self.old }
     {
         match &mut self.machine {
-            Machine::Hh(run) => moves_left(run),
-            Machine::Manne(run) => moves_left(run),
+            Machine::Hh(run) => run.recorder.moves_left(),
+            Machine::Manne(run) => run.recorder.moves_left(),
         }
     }
 

@@ -1,14 +1,11 @@
 //! The costs of edits and faults in a silent network. Asking makes no entry.
 
-ghost use Rattle.std.specs.Prelude.{◌≡◌, ◌↔◌, [], IfSome, IsSome, SomeIff};
-ghost use Rattle.rule_engine.specs.Costs.{disturbance_cost};
-ghost use Rattle.rule_machine.specs.RuleTable.{enabled_names};
+ghost use Rattle.std.specs.Prelude.{◌≡◌, ◌↔◌, IfSome, IsSome, SomeIff};
 ghost use Rattle.rule_machine.specs.Tables.{table_of};
 ghost use Rattle.rule_machine.specs.declared.event.Event.{Event};
 ghost use Rattle.rule_machine.specs.declared.event.Event.TheVariants.{Link, Unlink, Point, Flag, Join, Leave};
 ghost use Rattle.script_text.specs.declared.command.Command.TheVariants.{Tell};
 ghost use Rattle.script_text.specs.Command.{IsCommand};
-ghost use Rattle.move_bounds.specs.FromSilence.{BoundsMovesAfter};
 ghost use Rattle.rudekpi_c.specs.CommandCalls.{optional_name};
 ghost use Rattle.rudekpi_c.specs.Session.{stands, rules_of};
 ghost use Rattle.rudekpi_c.specs.SilentCosts.{silent_cost_at, IsSilentAt, PaysFor, AnswersSilentCost};
@@ -17,19 +14,9 @@ use crate::request;
 use crate::session::{Machine, Session};
 use crate::slot::Slot;
 use crate::status::{BAD_ARGUMENT, DONE, NO_SESSION, NOT_SILENT};
-use rule_engine::SilentCost;
 use rule_machine::Event;
-use run_session::Run;
 use script_text::Command;
 use std::alloc::Global;
-
-fn silent_cost_in<R: SilentCost>(run: &Run<R>, event: &Event) -> Option<u32>
-    ensures silent { IsSome result ↔ (enabled_names R.table run.now.recorder.state ≡ []) }
-    ensures cost { IfSome result (λ most. most ≡ disturbance_cost R.table R.silent_cost run.now.recorder.state event.now) }
-    ensures pays { IfSome result (λ most. BoundsMovesAfter R.table run.now.recorder.state run.now.recorder.spent event.now most) }
-{
-    run.recorder.net().silent_cost_of(event)
-}
 
 impl Session {
     /// The cost of an event in a silent network, or `None` if a rule is enabled.
@@ -39,8 +26,8 @@ impl Session {
         ensures pays { IfSome result (λ most. PaysFor (table_of (rules_of self.now)) (stands self.now).moment event.now most) }
     {
         match &self.machine {
-            Machine::Hh(run) => silent_cost_in(run, event),
-            Machine::Manne(run) => silent_cost_in(run, event),
+            Machine::Hh(run) => run.recorder.net().silent_cost_of(event),
+            Machine::Manne(run) => run.recorder.net().silent_cost_of(event),
         }
     }
 }
