@@ -1,8 +1,9 @@
-//! How many neighbours of a node are unmarried.
+//! Pairs, and how many neighbours of a node are unmarried.
 
 ghost use Rattle.std.specs.Prelude.{◌≡◌, ◌≤◌, IsTrue};
 ghost use Rattle.rule_machine.specs.Network.{present};
-ghost use Rattle.silence_laws.specs.Costs.{is_single_but, single_neighbours_but};
+ghost use Rattle.rule_machine.specs.State.{is_mutual};
+ghost use Rattle.silence_laws.specs.Costs.{is_single_but, single_neighbours, single_neighbours_but};
 
 use net_state::NetState;
 use rule_machine::Node;
@@ -20,8 +21,7 @@ fn is_unmarried_but(net: &NetState, but: &Option<Node>, w: Node) -> bool
     }
 }
 
-/// How many neighbours of a node are unmarried and not `but`. Looks at each neighbour.
-pub(crate) fn count_unmarried(net: &NetState, v: Node, but: &Option<Node>) -> u32
+fn count_unmarried(net: &NetState, v: Node, but: &Option<Node>) -> u32
     requires { IsTrue (present net.now.state.network v) }
     ensures count { result ≡ single_neighbours_but net.now.state v but.now }
     ensures few { result ≤ 65535 }
@@ -33,4 +33,30 @@ pub(crate) fn count_unmarried(net: &NetState, v: Node, but: &Option<Node>) -> u3
         count += u32::from(is_unmarried_but(net, but, w));
     }
     count
+}
+
+/// How many neighbours of a node are unmarried and not `but`: at most 65,535. Looks at each neighbour.
+pub fn unmarried_neighbours_but(net: &NetState, v: Node, but: Option<Node>) -> u32
+    requires { IsTrue (present net.now.state.network v) }
+    ensures count { result ≡ single_neighbours_but net.now.state v but }
+    ensures few { result ≤ 65535 }
+{
+    count_unmarried(net, v, &but)
+}
+
+/// How many neighbours of a node are unmarried: at most 65,535. Looks at each neighbour.
+#[tactic(auto, using(crate::specs::Unmarried::without_exception))]
+pub fn unmarried_neighbours(net: &NetState, v: Node) -> u32
+    requires { IsTrue (present net.now.state.network v) }
+    ensures count { result ≡ single_neighbours net.now.state v }
+    ensures few { result ≤ 65535 }
+{
+    unmarried_neighbours_but(net, v, None)
+}
+
+/// Whether two nodes point at each other.
+pub fn is_pair(net: &NetState, a: Node, b: Node) -> bool
+    ensures { result ≡ is_mutual net.now.state a b }
+{
+    net.points(a, b) && net.points(b, a)
 }

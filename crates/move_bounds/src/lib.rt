@@ -7,9 +7,8 @@
 //! `SilentCost` is what one disturbance of a silent network costs. A network is silent if no rule is enabled.
 //! Few moves come after one disturbance of it: the laws of `silence_laws` bound these moves by the unmarried
 //! neighbours of two nodes. The engine reports the bound (`Net::silent_cost_of`). The trait `Rules` has
-//! another bound, `cost`, which is valid in every network, silent or not. A silent cost sees a network only
-//! through `SilentView`. So `silent_cost` looks at each neighbour of two nodes, whatever the size of the
-//! network. A `NetState` is a `SilentView`.
+//! another bound, `cost`, which is valid in every network, silent or not. `silent_cost` looks at each
+//! neighbour of two nodes, whatever the size of the network.
 //!
 //! ```rust
 //! let most = R::most_moves(net.store().nodes());
@@ -21,9 +20,8 @@ mod count;
 mod edges;
 mod node_bound;
 mod silent_cost;
-mod view;
 
+pub use count::{is_pair, unmarried_neighbours, unmarried_neighbours_but};
 pub use edges::{link_cost, unlink_cost};
 pub use node_bound::NodeBound;
 pub use silent_cost::SilentCost;
-pub use view::{SilentView, is_pair, unmarried_neighbours};

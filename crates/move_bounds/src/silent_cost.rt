@@ -6,7 +6,7 @@ ghost use Rattle.rule_machine.specs.Refuse.{refusal_of};
 ghost use Rattle.rule_machine.specs.State.{State, IsState};
 ghost use Rattle.move_bounds.specs.FromSilence.{ExceedsAtMost, PaysFromSilence};
 
-use crate::SilentView;
+use net_state::NetState;
 use rule_machine::{Event, Rules};
 
 /// Rules that bound the moves after one disturbance of a silent network.
@@ -19,10 +19,10 @@ pub trait SilentCost: Rules {
 
     /// The most moves that can come after an accepted event of a silent network; 0 if it is no disturbance.
     /// Looks at each neighbour of at most two nodes.
-    fn silent_cost<V: SilentView>(view: &V, event: &Event) -> u32
-        requires state { IsState (V.state view.now) }
-        requires accepted { refusal_of Self.table (V.state view.now) event.now ≡ None }
-        ensures { result ≡ silent_cost (V.state view.now) event.now };
+    fn silent_cost(net: &NetState, event: &Event) -> u32
+        requires state { IsState net.now.state }
+        requires accepted { refusal_of Self.table net.now.state event.now ≡ None }
+        ensures { result ≡ silent_cost net.now.state event.now };
 
     /// In a silent network, at most `silent_cost` moves come between the event and the next disturbance.
     ghost silent_cost_pays: { PaysFromSilence Self.table silent_cost };

@@ -7,47 +7,50 @@ ghost use Rattle.rule_machine.specs.State.{IsState, pointer};
 ghost use Rattle.silence_laws.specs.Costs.{silent_cost, silent_point_cost};
 
 use crate::HsuHuang;
-use move_bounds::{SilentCost, SilentView, link_cost, unlink_cost, unmarried_neighbours};
+use move_bounds::{
+    SilentCost, link_cost, unlink_cost, unmarried_neighbours, unmarried_neighbours_but,
+};
+use net_state::NetState;
 use rule_machine::{Event, Node};
 
 /// The silent cost of writing the pointer of a paired node.
-fn pair_cost<V: SilentView>(view: &V, v: Node, partner: Node, target: Option<Node>) -> u32
-    requires state { IsState (V.state view.now) }
-    requires present { IsTrue (present (V.state view.now).network v) }
-    requires partner { IsTrue (present (V.state view.now).network partner) }
-    ensures { result ≡ silent_point_cost (V.state view.now) v (Some partner) target }
+fn pair_cost(net: &NetState, v: Node, partner: Node, target: Option<Node>) -> u32
+    requires state { IsState net.now.state }
+    requires present { IsTrue (present net.now.state.network v) }
+    requires partner { IsTrue (present net.now.state.network partner) }
+    ensures { result ≡ silent_point_cost net.now.state v (Some partner) target }
 {
     let Some(w) = target else {
-        return 2 * (view.unmarried_neighbours_but(v, None) + unmarried_neighbours(view, partner))
+        return 2 * (unmarried_neighbours_but(net, v, None) + unmarried_neighbours(net, partner))
             + 1;
     };
     if partner == w {
         return 0;
     }
-    2 * (view.unmarried_neighbours_but(v, target) + unmarried_neighbours(view, partner)) + 4
+    2 * (unmarried_neighbours_but(net, v, target) + unmarried_neighbours(net, partner)) + 4
 }
 
 #[tactic(auto, using(machine_laws::proofs::PresentNodes::target_present))]
-fn point_cost<V: SilentView>(view: &V, v: Node, target: Option<Node>) -> u32
-    requires state { IsState (V.state view.now) }
-    requires present { IsTrue (present (V.state view.now).network v) }
-    ensures { let s = V.state view.now in result ≡ silent_point_cost s v (pointer s v) target }
+fn point_cost(net: &NetState, v: Node, target: Option<Node>) -> u32
+    requires state { IsState net.now.state }
+    requires present { IsTrue (present net.now.state.network v) }
+    ensures { let s = net.now.state in result ≡ silent_point_cost s v (pointer s v) target }
 {
-    match view.pointer(v) {
-        Some(partner) => pair_cost(view, v, partner, target),
+    match net.pointer(v) {
+        Some(partner) => pair_cost(net, v, partner, target),
         None if target.is_some() => 1,
         None => 0,
     }
 }
 
 #[tactic(auto, using(machine_laws::proofs::PresentNodes::target_present))]
-fn leave_cost<V: SilentView>(view: &V, v: Node) -> u32
-    requires state { IsState (V.state view.now) }
-    requires present { IsTrue (present (V.state view.now).network v) }
-    ensures { result ≡ silent_cost (V.state view.now) (Leave v) }
+fn leave_cost(net: &NetState, v: Node) -> u32
+    requires state { IsState net.now.state }
+    requires present { IsTrue (present net.now.state.network v) }
+    ensures { result ≡ silent_cost net.now.state (Leave v) }
 {
-    match view.pointer(v) {
-        Some(u) => 2 * unmarried_neighbours(view, u),
+    match net.pointer(v) {
+        Some(u) => 2 * unmarried_neighbours(net, u),
         None => 0,
     }
 }
@@ -62,12 +65,12 @@ impl SilentCost for HsuHuang {
     ghost excess = { no_excess };
 
     #[tactic(auto, using(move_bounds::specs::Present::lower_present, move_bounds::specs::Present::upper_present, machine_laws::proofs::PresentNodes::first_present, machine_laws::proofs::PresentNodes::second_present, machine_laws::proofs::PresentNodes::pointer_present, machine_laws::proofs::PresentNodes::leaver_present))]
-    fn silent_cost<V: SilentView>(view: &V, event: &Event) -> u32 {
+    fn silent_cost(net: &NetState, event: &Event) -> u32 {
         match event {
-            Event::Link(a, b) => link_cost(view, *a, *b, 2),
-            Event::Unlink(a, b) => unlink_cost(view, *a, *b, 0),
-            Event::Point(v, target) => point_cost(view, *v, *target),
-            Event::Leave(v) => leave_cost(view, *v),
+            Event::Link(a, b) => link_cost(net, *a, *b, 2),
+            Event::Unlink(a, b) => unlink_cost(net, *a, *b, 0),
+            Event::Point(v, target) => point_cost(net, *v, *target),
+            Event::Leave(v) => leave_cost(net, *v),
             Event::Flag(_, _) | Event::Join(_) => 0,
             Event::Step(_) | Event::Show(_) => 0,
             Event::Enabled | Event::Matching | Event::Status => 0,

@@ -3,4 +3,4 @@ use Rattle.silence_laws.specs.Costs.{manne_silent_cost}
 use Rattle.rules_manne.proofs.silent.ManneSilentCost.silent_cost.Goals as goal
 
 pub returns-in-Unlink : goal.returns-in-Unlink
-returns-in-Unlink g c = c.unlink_cost.ensures ∙ ap (manne_silent_cost (g.V.SilentView.state c.args.view.now)) (sym c.in-Unlink.is)
+returns-in-Unlink c = c.unlink_cost.ensures ∙ ap (manne_silent_cost (c.args.net.now.state)) (sym c.in-Unlink.is)
