@@ -14,6 +14,7 @@ from __future__ import annotations
 import argparse
 import collections
 import dataclasses
+import inspect
 import io
 import json
 import os
@@ -196,7 +197,10 @@ def of_json(text: str) -> Reading:
     import networkx
 
     data = json.loads(text.removeprefix("\ufeff"))
-    found = of_graph(networkx.node_link_graph(data, link="edges" if "edges" in data else "links"))
+    # the parameter has another name since networkx 3.4
+    names = inspect.signature(networkx.node_link_graph).parameters
+    key = {"edges" if "edges" in names else "link": "edges" if "edges" in data else "links"}
+    found = of_graph(networkx.node_link_graph(data, **key))
     found.is_multiple |= bool(data.get("multigraph"))
     return found
 
