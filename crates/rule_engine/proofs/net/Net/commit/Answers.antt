@@ -1,11 +1,11 @@
-use Rattle.rule_engine.proofs.Prelude.{◌≡◌, ap, sym, subst, arith, reply_of, charge_bound, IsWithinBudget, moment, NetView, Answers}
+use Rattle.rule_engine.proofs.Prelude.{◌≡◌, ◌∙◌, ap, sym, subst, arith, reply_of, charge_bound, IsWithinBudget, moment, NetView, StateView, Answers}
 use Rattle.rule_engine.proofs.Moments.{turn_answers, prepared_is_paid}
 use Rattle.rule_engine.proofs.net.Net.commit.Goals as goal
 
 pub spent_after-self-inside-requires : goal.spent_after-self-inside-requires
 spent_after-self-inside-requires g c =
     let laws = g.R.Rules.laws in
-    omega (arith, (prepared_is_paid g.R.Rules.table g.R.Rules.NODE_WEIGHT laws.table laws.charged laws.no_update _ _ c.self.view_is c.self.invariant c.args.event.now c.args.reply.now c.requires c.commit.new.self.state c.commit.ensures).within, ap (charge_bound g.R.Rules.NODE_WEIGHT) c.store.ensures.network)
+    omega (arith, (prepared_is_paid g.R.Rules.table g.R.Rules.NODE_WEIGHT laws.table laws.charged laws.no_update _ _ c.self.view_is c.self.invariant c.args.event.now c.args.reply.now c.requires c.commit.new.self.state c.commit.ensures).within, ap (charge_bound g.R.Rules.NODE_WEIGHT) (c.store.ensures.network ∙ ap (λ (v : StateView). v.state.network) c.net.ensures.value))
 
 pub invariant_of-self : goal.invariant_of-self
 invariant_of-self g c =

@@ -9,4 +9,4 @@ returns-clause-spares g c =
     let event = c.args.event.now in
     let inside = c.self.inside in
     subst (λ (n : NetView). IfOk c.reach_of.result (λ list. Spares t n.state n.spent event list.items)) c.self.view_is
-    (IfOk-weaker c.reach_of.result _ _ (λ list is. spares_others t laws.table inside.engine.state c.registers.ensures.state inside.spent event list.items is) c.reach_of.ensures.reach)
+    (IfOk-weaker c.reach_of.result _ _ (λ list is. spares_others t laws.table inside.engine.state c.net.ensures.state inside.spent event list.items is) c.reach_of.ensures.reach)
