@@ -1,5 +1,5 @@
 pub mod AcceptedDraws
-pub mod Turns
+pub mod DrawnTurns
 pub mod Prelude
 pub mod Words
 pub mod Once

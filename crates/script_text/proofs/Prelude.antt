@@ -15,7 +15,7 @@ pub use Rattle.machine_laws.proofs.Laws.{hsu_huang_charged, manne_charged}
 pub use Rattle.machine_laws.proofs.Tables.{hsu_huang_table, manne_table}
 pub use Rattle.machine_laws.specs.ChargeWords.{IsCharged}
 pub use Rattle.daemon.specs.DrawnChoices.{choice_drawn}
-pub use Rattle.script_text.proofs.Turns.{turn_rests, turn_pays, zero_is_quiet}
+pub use Rattle.script_text.proofs.DrawnTurns.{turn_rests, turn_pays, zero_is_quiet}
 pub use Rattle.line_text.proofs.Digits.{own, run_once}
 pub use Rattle.line_text.proofs.EventLengths.{two_short, event_short}
 pub use Rattle.line_text.proofs.EventsOnce.{spells_once}

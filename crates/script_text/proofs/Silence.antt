@@ -1,5 +1,5 @@
 -- A line that drives as many turns as the charge, and takes all of them, ends with no node enabled.
-use Rattle.script_text.proofs.Prelude.{◌≡◌, ◌∙◌, ℕ, zero, suc, ◌+◌, ◌≤◌, List, [], ◌∷◌, Option, None, Some, codes, refl, sym, ap, subst, ⊎_elim, arith, option_map, Stream, Item, Event, Step, state_after, State, IsState, Moment, RuleTable, enabled_names, state_after_keeps, IsTable, option_cases, IsCharged, choice_drawn, turn_rests, turn_pays, zero_is_quiet, Draws, seeded_stream, drawn_step, drawn_fault, Command, Tell, Drive, Scramble, Checkpoint, Turns, Says, command_text, Progress, AppendsEntry, TurnDoes, TurnsDo, CommandDoes, LineDoes, LinesDo}
+use Rattle.script_text.proofs.Prelude.{◌≡◌, ℕ, zero, suc, ◌≤◌, List, [], ◌∷◌, Option, None, Some, sym, ap, subst, ⊎_elim, arith, option_map, Stream, Item, Event, Step, state_after, IsState, Moment, RuleTable, enabled_names, state_after_keeps, IsTable, option_cases, IsCharged, choice_drawn, turn_rests, turn_pays, zero_is_quiet, Draws, seeded_stream, drawn_step, drawn_fault, Command, Tell, Drive, Scramble, Checkpoint, Turns, Says, command_text, Progress, AppendsEntry, TurnDoes, TurnsDo, CommandDoes, LineDoes, LinesDo}
 use Rattle.script_text.proofs.Once.{head_of, says_once}
 
 -- what the turns after the first do

@@ -2,7 +2,7 @@ use Rattle.rule_machine.specs.HsuHuang.{hsu_huang}
 use Rattle.rule_machine.specs.Manne.{manne}
 use Rattle.machine_laws.proofs.Tables.{hsu_huang_table, manne_table}
 use Rattle.machine_laws.proofs.Laws.{hsu_huang_charged, manne_charged}
-use Rattle.script_text.proofs.Turns.{driven_is_quiet}
+use Rattle.script_text.proofs.DrawnTurns.{driven_is_quiet}
 use Rattle.script_text.proofs.law.long_draws_end_silent.Goals as goal
 
 pub returns-clause-hsu_huang : goal.returns-clause-hsu_huang
