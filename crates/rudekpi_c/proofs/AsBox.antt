@@ -7,7 +7,7 @@ use Rattle.std_alloc.proofs.BoxSteps.Form.{Bx}
 use Rattle.std_heap.specs.contracts.Global as heap
 use Rattle.std_heap.specs.contracts.GlobalAllocator.TheImpl.{ghosts, dict}
 use Rattle.std_heap.proofs.Global.TheLaws as heap_laws
-use Rattle.auditor.specs.contracts.pieces.PieceAudit as audit
+use Rattle.auditor.specs.contracts.piece_audit.PieceAudit as audit
 use Rattle.auditor.proofs.piece_audit.PieceAudit.TheLaws as audit_laws
 use Rattle.rudekpi_c.specs.contracts.session.Session as session
 use Rattle.rudekpi_c.proofs.session.Session.TheLaws as session_laws

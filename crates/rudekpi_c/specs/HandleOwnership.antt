@@ -8,7 +8,7 @@ use Rattle.std.specs.Box.Ownership.{box_owns}
 use Rattle.std.specs.Global.{Global}
 use Rattle.std.specs.contracts.impls.GlobalAllocator.TheImpl.{ghosts}
 use Rattle.std.specs.contracts.option.Option as option
-use Rattle.auditor.specs.contracts.pieces.PieceAudit as audit
+use Rattle.auditor.specs.contracts.piece_audit.PieceAudit as audit
 use Rattle.rudekpi_c.specs.contracts.session.Session as session
 
 -- the value at the address and the right to free its block, or nothing

@@ -20,7 +20,7 @@ mod read_progress;
 mod refused_line;
 mod restart;
 mod resumption;
-mod run;
+mod runner;
 mod script;
 mod stepping;
 mod writing;

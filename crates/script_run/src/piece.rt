@@ -10,7 +10,7 @@ ghost use Rattle.script_run.specs.ReadProgress.{IsReadUpTo, CarriesPiece, extent
 
 use crate::RunFault;
 use crate::read_progress::ReadProgress;
-use crate::run::Run;
+use crate::runner::Run;
 use crate::writing::hand_over;
 use byte_streams::{FailStopWriter, split_line};
 use rule_machine::Rules;

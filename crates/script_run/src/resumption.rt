@@ -9,7 +9,7 @@ ghost use Rattle.script_run.specs.Outcome.{EndsFrom};
 ghost use Rattle.script_run.specs.Restarts.{restarted};
 ghost use Rattle.script_run.specs.WholeLines.{DoesWholeLines};
 
-use crate::run::{Run, play};
+use crate::runner::{Run, play};
 use crate::{RefusedLine, Restart, RunFault};
 use byte_streams::{CountingReader, FailStopWriter};
 use rule_engine::Net;

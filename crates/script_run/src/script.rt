@@ -9,7 +9,7 @@ ghost use Rattle.run_session.specs.RunStart.{first_progress};
 ghost use Rattle.script_run.specs.Outcome.{IsRunOutcome};
 ghost use Rattle.script_run.specs.WholeLines.{DoesWholeLines};
 
-use crate::run::run_on;
+use crate::runner::run_on;
 use crate::{Options, RefusedLine, RunFault};
 use byte_streams::{CountingReader, FailStopWriter};
 use rule_machine::RuleSet;

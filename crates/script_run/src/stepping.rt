@@ -7,7 +7,7 @@ ghost use Rattle.run_session.specs.Line.{progress_of};
 ghost use Rattle.script_run.specs.Line.{StepEnds};
 ghost use Rattle.step_log.specs.declared.fault.RecordFault.TheVariants.{LogFull};
 
-use crate::run::Run;
+use crate::runner::Run;
 use line_text::put_entry_of_line;
 use rule_machine::{Choice, Rules};
 use std::alloc::Global;

@@ -1,6 +1,6 @@
 use Rattle.script_run.proofs.Prelude.{length-take, ◌≡◌, ◌∙◌, length, refl, ap, arith, progress, returned}
 use Rattle.script_run.proofs.RunProgress.{Came-unbegun, Came-none, Came-handed, Came-began, Came-unread, Came-whole, Came-last, Came-piece, Took-goes_on, Took-ends, wrote_not_read}
-use Rattle.script_run.proofs.run.Run.carry_out_all.Goals as goal
+use Rattle.script_run.proofs.runner.Run.carry_out_all.Goals as goal
 
 pub returns-in_default-clause-outcome : goal.returns-in_default-clause-outcome
 returns-in_default-clause-outcome g c =

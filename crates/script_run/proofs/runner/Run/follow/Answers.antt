@@ -1,6 +1,6 @@
 use Rattle.run_session.specs.Line.{progress}
 use Rattle.script_run.proofs.TextShift.{command_grows}
-use Rattle.script_run.proofs.run.Run.follow.Goals as goal
+use Rattle.script_run.proofs.runner.Run.follow.Goals as goal
 
 pub returns-clause-ends : goal.returns-clause-ends
 returns-clause-ends g c =

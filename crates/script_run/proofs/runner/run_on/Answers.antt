@@ -1,6 +1,6 @@
 use Rattle.script_run.proofs.Prelude.{lines_of}
 use Rattle.script_run.proofs.RunEnds.{WritesPart-none, Ends-asked, Whole-asked, for_any}
-use Rattle.script_run.proofs.run.run_on.Goals as goal
+use Rattle.script_run.proofs.runner.run_on.Goals as goal
 
 pub returns-in_default-clause-outcome : goal.returns-in_default-clause-outcome
 returns-in_default-clause-outcome g c =

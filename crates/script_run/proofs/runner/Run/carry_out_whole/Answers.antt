@@ -1,6 +1,6 @@
 use Rattle.script_run.proofs.Prelude.{◌≡◌, Err, length, arith, rules, Memory, Record}
 use Rattle.script_run.proofs.TextShift.{cut_back}
-use Rattle.script_run.proofs.run.Run.carry_out_whole.Goals as goal
+use Rattle.script_run.proofs.runner.Run.carry_out_whole.Goals as goal
 
 pub returns-in-Err-Record-Memory-clause-ends : goal.returns-in-Err-Record-Memory-clause-ends
 returns-in-Err-Record-Memory-clause-ends g c =

@@ -1,6 +1,6 @@
 use Rattle.script_run.proofs.Prelude.{nil_from_length, ◌≡◌, [], arith, returned}
 use Rattle.script_run.proofs.RunProgress.{never_read, never_written, Last-none, Last-whole, Last-stopped}
-use Rattle.script_run.proofs.run.Run.carry_out_last.Goals as goal
+use Rattle.script_run.proofs.runner.Run.carry_out_last.Goals as goal
 
 pub returns-then-is_empty-clause-last : goal.returns-then-is_empty-clause-last
 returns-then-is_empty-clause-last g c start old known read h = Last-none h (nil_from_length c.args.reading.now.begun.items (grind arith))

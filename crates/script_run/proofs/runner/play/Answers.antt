@@ -1,6 +1,6 @@
 use Rattle.script_run.proofs.Prelude.{◌∙◌, sym, returned}
 use Rattle.script_run.proofs.RunEnds.{Ends-failed, Ends-unwritten, Ends-finished, Whole-finished, unwritten_is, written_not}
-use Rattle.script_run.proofs.run.play.Goals as goal
+use Rattle.script_run.proofs.runner.play.Goals as goal
 
 pub returns-then-is_unwritten-clause-outcome : goal.returns-then-is_unwritten-clause-outcome
 returns-then-is_unwritten-clause-outcome g c =

@@ -1,6 +1,6 @@
 use Rattle.script_run.proofs.Prelude.{◌≡◌, ◌≤◌, ◌+◌, ◌-◌, ◌*◌, length, progress}
 use Rattle.script_run.proofs.RunProgress.{Came}
-use Rattle.script_run.proofs.run.Run.carry_out_all.Given as goal
+use Rattle.script_run.proofs.runner.Run.carry_out_all.Given as goal
 
 abbrev pub invariant-loop-reading : goal.invariant-loop-reading
 invariant-loop-reading g l =

@@ -1,5 +1,5 @@
 use Rattle.script_run.proofs.Prelude.{◌≡◌, ◌≤◌, ◌+◌, ℕ, List, Option, length, Progress, progress, IsReadUpTo}
-use Rattle.script_run.proofs.run.Run.carry_out_piece.Given as goal
+use Rattle.script_run.proofs.runner.Run.carry_out_piece.Given as goal
 
 abbrev pub invariant-loop-end : goal.invariant-loop-end
 invariant-loop-end g l =

@@ -1,6 +1,6 @@
 use Rattle.script_run.proofs.Prelude.{◌≡◌, ◌∙◌, ◌+◌, [], length, refl, ap, arith, returned}
 use Rattle.script_run.proofs.RunProgress.{moved_on, never_read, never_written, wrote_not_read, Stands-line, Stands-handed, Stands-stopped, Stands-memory, Stands-long, PieceEnds-failed}
-use Rattle.script_run.proofs.run.Run.carry_out_piece.Goals as goal
+use Rattle.script_run.proofs.runner.Run.carry_out_piece.Goals as goal
 
 pub returns-in_err-carry_out_ended-clause-piece : goal.returns-in_err-carry_out_ended-clause-piece
 returns-in_err-carry_out_ended-clause-piece g c start old read h =
