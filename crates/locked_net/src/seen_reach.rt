@@ -49,12 +49,10 @@ impl<R: Rules> LockedNet<R> {
         ensures { IfOk result (λ seen. IsReachSeen (setting_of R.table self.now) (book_of self.now) event.now seen.nodes.items seen.note) }
     {
         let held = self.hold(rt);
-        let nodes = held.net().reach_of(event);
+        let found = held.net().reach_of(event);
         let note = held.note();
         held.free();
-        Ok(SeenReach {
-            nodes: nodes?,
-            note,
-        })
+        let nodes = found?;
+        Ok(SeenReach { nodes, note })
     }
 }

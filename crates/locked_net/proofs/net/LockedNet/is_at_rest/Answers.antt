@@ -1,14 +1,15 @@
-use Rattle.locked_net.proofs.Prelude.{ap, ◌∙◌, BoardName}
+use Rattle.locked_net.proofs.Prelude.{◌≡◌, None, IsTrue, ap, ◌∙◌, subst, State, BoardName, rule_at}
+use Rattle.containment_laws.specs.Rest.{is_at_rest}
 use Rattle.locked_net.proofs.net.LockedNet.is_at_rest.Goals as goal
 
 pub returns : goal.returns
 returns g c =
-    let told = c.is_at_rest-seen.ensures in
+    let t = g.R.Rules.table in
     record {
       log = c.hold-held.result.log;
       own = c.hold-held.ensures.own;
-      published = told.note.0;
-      in_book = told.note.1 ∙ ap (λ (name : BoardName). name.book) c.hold-held.ensures.name;
-      rests_is = told.rests;
-      idle = told.idle;
+      published = c.note.ensures.0;
+      in_book = c.note.ensures.1 ∙ ap (λ (name : BoardName). name.book) c.hold-held.ensures.name;
+      rests_is = c.is_at_rest.ensures.rests ∙ ap (λ (s : State). is_at_rest t.flags s c.args.v) c.net.ensures.state;
+      idle = subst (λ (s : State). IsTrue c.is_at_rest.result → rule_at t s c.args.v ≡ None) c.net.ensures.state c.is_at_rest.ensures.idle;
     }

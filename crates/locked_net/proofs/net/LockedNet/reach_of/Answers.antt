@@ -1,18 +1,18 @@
-use Rattle.locked_net.proofs.Prelude.{Result, Ok, Err, IfOk, ap, ◌∙◌, BoardName}
+use Rattle.locked_net.proofs.Prelude.{◌≡◌, ℕ, ap, ◌∙◌, subst, State, BoardName}
+use Rattle.rule_engine.specs.DisturbanceReach.{reach_of, Spares}
 use Rattle.locked_net.proofs.net.LockedNet.reach_of.Goals as goal
-
-together : {T E : Type 0} (r : Result T E) (P Q N S : T → Type 0) → IfOk r P → IfOk r Q → IfOk r N → ((x : T) → P x → Q x → N x → S x) → IfOk r S
-together (Ok x) P Q N S p q n join = join x p q n
-together (Err e) P Q N S p q n join = tt
 
 pub returns : goal.returns
 returns g c =
-    let told = c.reach_of-seen.ensures in
-    together c.reach_of-seen.result _ _ _ _ told.reach told.spares told.note (λ seen reach spares note. record {
+    let t = g.R.Rules.table in
+    let event = c.args.event.now in
+    let nodes = c.in_ok-nodes.nodes.items in
+    record {
       log = c.hold-held.result.log;
       own = c.hold-held.ensures.own;
-      published = note.0;
-      in_book = note.1 ∙ ap (λ (name : BoardName). name.book) c.hold-held.ensures.name;
-      reaches = reach;
-      spares = spares;
-    })
+      published = c.note-note.ensures.0;
+      in_book = c.note-note.ensures.1 ∙ ap (λ (name : BoardName). name.book) c.hold-held.ensures.name;
+      reaches = c.in_ok-nodes.ensures.reach ∙ ap (λ (s : State). reach_of t s event) c.net.ensures.state;
+      spares = subst (λ (s : State). Spares t s c.hold-held.result.log.spent event nodes) c.net.ensures.state
+      (subst (λ (spent : ℕ). Spares t c.net.result.now.state spent event nodes) c.net.ensures.spent c.in_ok-nodes.ensures.spares);
+    }
