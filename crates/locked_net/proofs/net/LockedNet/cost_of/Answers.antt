@@ -14,5 +14,5 @@ returns g c =
       in_book = c.note.ensures.1 ∙ ap (λ (name : BoardName). name.book) c.hold-held.ensures.name;
       costs = c.cost_of.ensures.cost ∙ ap (λ (s : State). disturbance_cost t g.R.Rules.cost s event) c.net.ensures.state;
       grows = subst (λ (s : State). BoundsGrowth t s c.hold-held.result.log.spent event cost) c.net.ensures.state
-      (subst (λ (spent : ℕ). BoundsGrowth t c.net.result.now.state spent event cost) c.net.ensures.spent c.cost_of.ensures.grows);
+          (subst (λ (spent : ℕ). BoundsGrowth t c.net.result.now.state spent event cost) c.net.ensures.spent c.cost_of.ensures.grows);
     }

@@ -14,5 +14,5 @@ returns g c =
       in_book = c.note-note.ensures.1 ∙ ap (λ (name : BoardName). name.book) c.hold-held.ensures.name;
       reaches = c.in_ok-nodes.ensures.reach ∙ ap (λ (s : State). reach_of t s event) c.net.ensures.state;
       spares = subst (λ (s : State). Spares t s c.hold-held.result.log.spent event nodes) c.net.ensures.state
-      (subst (λ (spent : ℕ). Spares t c.net.result.now.state spent event nodes) c.net.ensures.spent c.in_ok-nodes.ensures.spares);
+          (subst (λ (spent : ℕ). Spares t c.net.result.now.state spent event nodes) c.net.ensures.spent c.in_ok-nodes.ensures.spares);
     }
