@@ -43,16 +43,17 @@ class Page(Timed):
         page = re.search(r"```python\n(.*?)```", PAGE, re.DOTALL)
         assert page is not None
         code = page[1]
-        path = os.path.join(self.folder(), "out.svg")
+        paths = [os.path.join(self.folder(), name) for name in ("out.svg", "rounds.svg")]
         code = (
             code.replace("ring(50)", "ring(5)")
             .replace("grid(7, 7)", "grid(2, 2)")
             .replace("range(20)", "range(2)")
-            .replace("out.svg", path)
+            .replace("out.svg", paths[0])
+            .replace("rounds.svg", paths[1])
         )
         done = run("-c", re.sub(r".*frame_of.*\n", "", code))
         self.assertEqual((done.returncode, done.stderr), (0, ""))
-        self.assertTrue(os.path.exists(path))
+        self.assertEqual([path for path in paths if not os.path.exists(path)], [])
 
     def test_the_smaller_rows_of_its_table(self) -> None:
         rows = [
