@@ -21,7 +21,7 @@ SCRAMBLED = "20"
 
 
 def last_burst(pages: Pages, text: bytes) -> tuple[int, int]:
-    """The moves and rounds of a transcript's last burst, as the Python client counts them."""
+    """The moves and rounds of a transcript's last burst, by `rudekpi bursts`."""
     path = os.path.join(pages.folder, "burst.transcript")
     with open(path, "wb") as file:
         file.write(text)

@@ -1,6 +1,6 @@
 #!/usr/bin/env python3
 """Both auditors on transcripts and on edited ones: they must print the same line, and for every fifth text
-the same table of epochs, and exit alike.
+the same table of epochs but for its rounds, and exit alike.
 
 differ.py SEED SCRIPTS EDITS [near] [big] [FILE ..]: transcripts of random scripts with EDITS edits of each;
 near: edits that mostly keep the form; big: larger networks; FILE: a transcript; each of its lines is edited
@@ -182,6 +182,11 @@ def edited(given: Sequence[bytes], is_near: bool) -> bytes:
     return text[: chance.randint(0, len(text))] if act >= 0.95 else text
 
 
+def without_rounds(table: bytes) -> bytes:
+    """The table without its last column, which audit2 does not have."""
+    return b"".join(row.rpartition(b",")[0] + b"\n" for row in table.splitlines())
+
+
 class Comparison:
     """Counts what the auditors say of texts, and how often it differs."""
 
@@ -203,6 +208,8 @@ class Comparison:
         """What ./console says of a text, after a look whether audit2 says the same."""
         ours = scripts.called([scripts.AUDIT2] + our_words, text)
         theirs = scripts.called([scripts.CONSOLE] + their_words, text)
+        if their_words == ["epochs"] and theirs[0] == 0:
+            theirs = (theirs[0], without_rounds(theirs[1]), theirs[2])
         if ours != theirs:
             self.different += 1
             scripts.differs(f"{their_words[0]}_{self.seed}_{self.cases}", text, ours, theirs)

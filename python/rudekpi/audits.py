@@ -25,6 +25,10 @@ from .rules import moves_left
 
 Text = Union[str, bytes, bytearray, memoryview]
 
+# the head of the program's table of epochs, and that of a program that lists no rounds
+HEAD = "start,moves,edges,nodes,bound,cost,rounds\n"
+WITHOUT_ROUNDS = "start,moves,edges,nodes,bound,cost\n"
+
 
 @dataclass(frozen=True)
 class Slice:
@@ -94,8 +98,8 @@ def epochs(transcript: Given, *, program: Program = None) -> list[Epoch]:
     """The epochs of a transcript, each with its bound, and the cost and size of reach of its disturbance.
 
     The program judges the transcript and lists all but the reach, which the client counts. Raises `Damaged`
-    if `audit` refuses the transcript, `Garbled` if the program's epochs are not those of the entries, and
-    `Ended`.
+    if `audit` refuses the transcript, `Garbled` if the program's epochs are not those of the entries or have no
+    rounds, and `Ended`.
     """
     text = bytes_of(transcript)
     first, *rest = judged_epochs(text, program)
@@ -108,12 +112,20 @@ def epochs(transcript: Given, *, program: Program = None) -> list[Epoch]:
 
 def judged_epochs(transcript: Given, program: Program = None) -> list[Epoch]:
     """The epochs as `epochs` lists them, but with None for the reach."""
-    row = ",".join(["([0-9]+|-)", *["([0-9]+)"] * 4, "([0-9]+|-)"]) + "\n"
+    row = ",".join(["([0-9]+|-)", *["([0-9]+)"] * 4, "([0-9]+|-)", "([0-9]+)"]) + "\n"
     text = bytes_of(transcript)
-    rows = numbers_in("epochs", judged(["epochs"], text, program), row, "start,moves,edges,nodes,bound,cost\n")
+    said = judged(["epochs"], text, program)
+    if said.startswith(WITHOUT_ROUNDS):
+        raise Garbled(
+            "the program lists epochs without rounds, so it is older than this package: name another by program= or "
+            "RUDEKPI_CONSOLE"
+        )
+    rows = numbers_in("epochs", said, row, HEAD)
     # the second word of a header, also if the transcript begins with a base
     rules = "hh" if text[:16].split(b" ")[1] == b"hh" else "manne"
-    return [bounded(Epoch(*numbers), rules) for numbers in rows]
+    # the columns are fields of an epoch
+    columns = HEAD.rstrip().split(",")
+    return [bounded(Epoch(**dict(zip(columns, numbers))), rules) for numbers in rows]
 
 
 def bounded(epoch: Epoch, rules: str) -> Epoch:

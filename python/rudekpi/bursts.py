@@ -1,7 +1,7 @@
 """Bursts: the parts of a run from silence to silence, with their lengths and bounds.
 
-The program judges the transcript and lists moves and costs. This module goes through the entries and finds
-silence, rounds and the nodes reached.
+The program judges the transcript and lists the moves, costs and rounds of its epochs. This module goes
+through the entries and finds silence, steps and the nodes reached.
 """
 
 from __future__ import annotations
@@ -14,6 +14,7 @@ from typing import Iterable, Iterator, Mapping, Optional
 
 from .audits import judged_epochs
 from .containment import reach
+from .enabled_nodes import Watch
 from .errors import Garbled
 from .given import Given, bytes_of
 from .names import Names, names_for
@@ -22,7 +23,6 @@ from .program import Program
 from .reading import numbers_of_base
 from .replays import parts_of
 from .replies import Epoch, Fixed, Name
-from .rounds import Watch
 from .state import WORDS, State
 
 
@@ -35,10 +35,10 @@ class Burst:
     between them. `start` is None if the transcript begins with a base that has enabled nodes; `end` is None
     if nodes are enabled at the end of the transcript.
 
-    `disturbances` counts edits and faults by word; `moves`, `steps` and `rounds` count what followed. `cost`
-    is the sum of the costs of the edits and faults. `bound` is a proved bound on the moves: the cost and,
-    under `manne`, two more for each pair gained and one for each node that left. `cost` and `bound` are None
-    if `start` is.
+    `disturbances` counts edits and faults by word; `moves`, `steps` and `rounds` count what followed. `rounds`
+    is the sum of those of the burst's epochs. `cost` is the sum of the costs of the edits and faults. `bound`
+    is a proved bound on the moves: the cost and, under `manne`, two more for each pair gained and one for each
+    node that left. `cost` and `bound` are None if `start` is.
 
     `reached` lists the nodes that were in the reach of a disturbance when that came, and `moved` the nodes
     that moved, both in order of number. If the burst began in a silent network, no node outside `reached`
@@ -71,7 +71,10 @@ def bound_of_costs(rules: str, cost: int, gained: int, left: int) -> int:
 
 
 class BurstReader:
-    """Reads the bursts of an accepted transcript entry by entry, given its epochs."""
+    """Reads the bursts of an accepted transcript entry by entry, given its epochs.
+
+    If nodes are enabled in `state`, no node has moved in its epoch before; after a base, since the base.
+    """
 
     def __init__(
         self, rules: str, names: Names, state: State, epochs: Iterable[Epoch], has_partners: bool = False
@@ -79,7 +82,7 @@ class BurstReader:
         self.rules, self.names = rules, names
         self.partners = PartnerWatch(state) if has_partners else None
         self.watch = self.partners or Watch(state)
-        self.costs = {epoch.start: epoch.cost for epoch in epochs}
+        self.epochs = {epoch.start: epoch for epoch in epochs}
         self.is_open, self.last = False, state.entry
         if not self.watch.is_silent:
             self.begin(None)
@@ -87,6 +90,7 @@ class BurstReader:
     def begin(self, start: Optional[int]) -> None:
         watch = self.watch
         self.is_open, self.start, self.cost, self.pairs_before = (True, start, 0, watch.pairs)
+        self.rounds = self.first_rounds() if start is None else 0
         self.words: Counter[str] = Counter()
         self.reached: set[int] = set()
         watch.moved = set()
@@ -94,8 +98,13 @@ class BurstReader:
         if self.partners:
             self.partners.begin()
 
-    def counts(self) -> tuple[int, int, int]:
-        return sum(self.watch.moves.values()), self.watch.steps, self.watch.rounds
+    def counts(self) -> tuple[int, int]:
+        return sum(self.watch.moves.values()), self.watch.steps
+
+    def first_rounds(self) -> int:
+        """The rounds of the epoch that the first state is in."""
+        begun = [epoch for start, epoch in self.epochs.items() if start is None or start <= self.last]
+        return begun[-1].rounds
 
     def read(self, line: str) -> Iterator[Burst]:
         """The bursts that end right before this entry, or with it."""
@@ -116,11 +125,12 @@ class BurstReader:
 
     def add(self, word: str, numbers: list[int]) -> None:
         """Adds the edit or fault of the last entry, before the state follows that entry."""
-        cost = self.costs.get(self.last)
-        if cost is None:
+        epoch = self.epochs.get(self.last)
+        if epoch is None or epoch.cost is None:
             raise Garbled(f"the program lists no epoch that begins at entry {self.last}")
         self.words[word] += 1
-        self.cost += cost
+        self.cost += epoch.cost
+        self.rounds += epoch.rounds
         self.reached |= reach(self.watch.state, word, *numbers)
 
     def rest(self) -> Iterator[Burst]:
@@ -130,7 +140,7 @@ class BurstReader:
     def ended(self, end: Optional[int]) -> Burst:
         watch, self.is_open = self.watch, False
         gained = watch.pairs - self.pairs_before
-        moves, steps, rounds = (now - before for now, before in zip(self.counts(), self.counts_before))
+        moves, steps = (now - before for now, before in zip(self.counts(), self.counts_before))
         is_known = self.start is not None
         return Burst(
             self.start,
@@ -140,7 +150,7 @@ class BurstReader:
             bound_of_costs(self.rules, self.cost, gained, self.words["leave"]) if is_known else None,
             moves,
             steps,
-            rounds,
+            self.rounds,
             self.pairs_before,
             watch.pairs,
             tuple(map(self.names.name_of, sorted(self.reached))),

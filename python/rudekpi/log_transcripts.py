@@ -21,25 +21,36 @@ class Transcript:
     def __init__(self, target: Target) -> None:
         self.target = target
         self.file: Union[WholeFile, BinaryIO, None] = None
+        self.is_open = False
+        self.waiting = b""
 
     def __enter__(self) -> Transcript:
         return self
 
     def write(self, text: bytes) -> None:
-        """Writes the next text. The first text opens the file; so without text an older file stays."""
-        if not text or self.target is None:
+        """Writes the next text. The first text opens the file; so without text an older file stays.
+
+        If an interrupt comes while the file is opened, the next call opens it again, and writes this text too.
+        """
+        if self.target is None:
             return
-        if self.file is None:
+        self.waiting += text
+        if not self.waiting:
+            return
+        if not self.is_open:
             self.begin(self.target)
-        if self.file:
-            self.file.write(text)
+            self.is_open = True
+        text, self.waiting = self.waiting, b""
+        assert self.file
+        self.file.write(text)
 
     def begin(self, target: Union[str, os.PathLike[str], BinaryIO]) -> None:
-        if isinstance(target, (str, os.PathLike)):
-            self.file = file = WholeFile(target)
-            file.begin()
-        else:
+        if not isinstance(target, (str, os.PathLike)):
             self.file = target
+            return
+        if not isinstance(self.file, WholeFile):
+            self.file = WholeFile(target)
+        self.file.begin()
 
     def __exit__(self, kind: Optional[type[BaseException]], *_: object) -> None:
         file = self.file

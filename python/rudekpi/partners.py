@@ -8,7 +8,7 @@ from __future__ import annotations
 from dataclasses import dataclass, fields
 from typing import Iterable, Sequence
 
-from .rounds import Watch
+from .enabled_nodes import Watch
 from .state import State
 
 Pair = tuple[int, int]
@@ -56,7 +56,8 @@ class PartnerWatch(Watch):
     """A watch that also counts what happens to pairs, in one burst after another.
 
     A node's time alone may go on while others are disturbed. So in the rounds of this time, `spans`, an edit or
-    a fault does not cut a round off, but may end it.
+    a fault does not cut a round off, but may end it. The engine's rounds, which are those of epochs, are cut off
+    there: so these are counted here. Without an edit or a fault between two steps both are the same.
 
     A change of a pair takes constant time, a `leave` time in proportion to the node's neighbours.
     """

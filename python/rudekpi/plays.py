@@ -25,18 +25,10 @@ class Mended(NamedTuple):
 
 
 class Player:
-    """A daemon that moves in a network, a few moves at a time; counts its steps and moves.
+    """A daemon that moves in a network, a few moves at a time; counts its steps and moves."""
 
-    With `counts_rounds` the library's engine counts rounds from here anew, and `rounds` is how many the daemon
-    completed; with the program it is None.
-    """
-
-    def __init__(self, net: Network, daemon: Union[AnyDaemon, Daemon], counts_rounds: bool = False) -> None:
+    def __init__(self, net: Network, daemon: Union[AnyDaemon, Daemon]) -> None:
         self.net, self.steps, self.moves = net, 0, 0
-        self.rounds: Optional[int] = None
-        if counts_rounds and net.engine == "library":
-            net.count_rounds()
-            self.rounds = 0
         self.is_seeded, self.seed = isinstance(daemon, Seeded), daemon.seed if isinstance(daemon, Seeded) else 0
         if isinstance(daemon, Seeded):
             # the program's daemon takes no limit: these are its chances, drawn here
@@ -58,7 +50,6 @@ class Player:
 
     def step(self, most: Optional[int] = None) -> int:
         """Makes a step of at most this many nodes; returns how many moved, 0 if none is enabled."""
-        before = self.complete()
         if self.is_seeded and (most is None or self.net.rules == "hh"):
             moves = sum(map(len, self.net.drive(self.seed, 1)))
             self.seed = (self.seed + 1) % 2**64
@@ -66,17 +57,7 @@ class Player:
             enabled = self.net.enabled()
             moves = len(self.net.step(self.chosen(enabled, most))) if enabled else 0
         self.steps, self.moves = self.steps + bool(moves), self.moves + moves
-        self.add_rounds(before)
         return moves
-
-    def complete(self) -> int:
-        """The rounds complete since the last edit or fault; 0 if they are not counted."""
-        return 0 if self.rounds is None else self.net.rounds()
-
-    def add_rounds(self, before: int) -> None:
-        """Adds the rounds that the daemon has completed since there were `before` of them."""
-        if self.rounds is not None:
-            self.rounds += self.net.rounds() - before
 
     def chosen(self, enabled: Enabled, most: Optional[int]) -> Choice:
         choice = checked_choice(self.choose(enabled), enabled)
@@ -88,11 +69,9 @@ class Player:
         return items[:most]
 
     def settle(self) -> None:
-        before = self.complete()
         settled = self.net.settle(Seeded(self.seed) if self.is_seeded else self.choose)
         self.seed = (self.seed + 1) % 2**64
         self.steps, self.moves = self.steps + settled.steps, self.moves + settled.moves
-        self.add_rounds(before)
 
 
 def disturb_at_once(net: Network, events: Events, seed: int) -> None:

@@ -243,6 +243,10 @@ class Epoch:
 
     `reach` is how many nodes the disturbance reached, in the state right before it; None in the first epoch.
     If the network was silent in that state, no other nodes move in this epoch.
+
+    `rounds` is how many rounds are complete in the epoch, counted by the proved engine: of n nodes at most n
+    under `hh`, and 2n under `manne`, or 2n - 1 if n is odd. A round is as in `Network.count_rounds`. If `start`
+    is None, rounds are counted from the base on.
     """
 
     start: Optional[int]
@@ -252,6 +256,7 @@ class Epoch:
     bound: int
     cost: Optional[int]
     reach: Optional[int] = None
+    rounds: int = 0
 
 
 Choice = Iterable[Union[Name, Wish]]

@@ -25,7 +25,7 @@ class Row:
     `charge` is the charge at the beginning, `pairs` the number of pairs at the end. `bound` is that of the
     last `Epoch`. If disturbances come one by one, `charge` also includes the sum of their costs, and `bound`
     is that of a `Burst`. The moves exceed neither charge nor bound, and the rounds not `most_rounds`.
-    `rounds` counts them by the engine if the library played, and else by the client along the transcript.
+    `rounds` is the sum of those of each `Epoch` that the daemon moved in.
     `seconds` is the time for the whole experiment.
 
     `changes` counts the faults that changed a register, None if they were drawn with any value. `digest` is

@@ -23,6 +23,7 @@ from .bursts import bound_of_costs, read_after
 from .choices import Daemon
 from .disturbances import Disturbance as Disturbance
 from .disturbances import Events, units_of
+from .enabled_nodes import watch_after
 from .errors import Lost, RudekpiError
 from .graphs import from_networkx, is_networkx
 from .kept_graphs import Rows
@@ -32,7 +33,6 @@ from .numbers import MOST_SEED, MOST_TURNS, counted, number_within
 from .program import Program, found_program
 from .plays import Player, disturb_at_once, disturb_one_by_one
 from .replies import Name, Status
-from .rounds import watch_after
 from .rows import COLUMNS as COLUMNS, read_csv as read_csv, write_csv as write_csv  # noqa: F401
 from .rows import Row as Row, columns_of
 from .workers import Handing, count_of
@@ -72,8 +72,6 @@ class Played:
     changes: Optional[int] = None
     # the entry in silence after which the disturbances come; that of `before` if there are none
     quiet: int = 0
-    # the rounds of the daemon's part, as the library's engine counted them; None with the program
-    rounds: Optional[int] = None
 
 
 @dataclass(frozen=True)
@@ -141,14 +139,14 @@ class Experiment:
                 quiet = net._session.entries
                 if not wanted.is_one_by_one:
                     disturb_at_once(net, events, self.seed)
-            before, player = net.status(), Player(net, daemon, counts_rounds=True)
+            before, player = net.status(), Player(net, daemon)
             if wanted.is_one_by_one:
                 disturb_one_by_one(net, events, self.seed, player)
             player.settle()
             after = net.status()
         changes = None if wanted.any_value and wanted.faults else events.changes
         quiet = before.entry if quiet is None else quiet
-        return Played(net.transcript(), before, after, player.steps, player.moves, names, changes, quiet, player.rounds)
+        return Played(net.transcript(), before, after, player.steps, player.moves, names, changes, quiet)
 
     def joining(self, nodes: list[Name]) -> set[Name]:
         """The nodes that join, the first of these or of random groups."""
@@ -174,6 +172,8 @@ class Experiment:
         later = [epoch for epoch in epochs if epoch.start is not None and epoch.start > before.entry]
         moves, last = sum(watch.moves.values()), epochs[-1]
         told = sum(epoch.moves for epoch in later) if later else last.moves - before.spent
+        # without a disturbance the daemon moves only in an epoch that had no move before
+        rounds = sum(epoch.rounds for epoch in later) if later else last.rounds if told else 0
         is_of_daemon = moves == told == played.moves and last.moves == after.spent
         if not is_of_daemon or (later and not self.disturbance.is_one_by_one):
             raise RudekpiError(f"{self.told()}: the daemon itself disturbed the network")
@@ -194,7 +194,7 @@ class Experiment:
             str(self.disturbance),
             watch.steps,
             moves,
-            watch.rounds if played.rounds is None else played.rounds,
+            rounds,
             watch.moves["update"],
             watch.moves["marry"],
             watch.moves["seduce"],

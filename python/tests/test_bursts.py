@@ -11,10 +11,11 @@ import sys
 import unittest
 from unittest import mock
 
-from rudekpi import Damaged, Garbled, Network, audits, bursts, rounds
+from lib.counted_rounds import counted_rounds
+from rudekpi import Damaged, Garbled, Network, audits, bursts, epochs
 from rudekpi import rules as rule_sets
 from rudekpi.bursts import HEAD
-from rudekpi.rounds import Watch
+from rudekpi.enabled_nodes import Counts, Watch
 from rudekpi.state import State
 from support import TOP, Timed
 
@@ -67,16 +68,21 @@ def watched(lines: list[str]) -> Watch:
     return watch
 
 
+def last_rounds(lines: list[str]) -> int:
+    """The rounds of the last epoch of these lines."""
+    return epochs("".join(f"{line}\n" for line in lines))[-1].rounds
+
+
 class Rounds(Timed):
-    # only the client counts
+    # the program lists epochs for both engines
     engines = ("program",)
 
     def test_by_hand(self) -> None:
         # 1 and 2 are enabled at first: the first round waits for both
         lines = ROW.splitlines()
-        self.assertEqual([watched(lines[: at + 1]).rounds for at in range(4)], [0, 0, 0, 1])
+        self.assertEqual([last_rounds(lines[: at + 1]) for at in range(4)], [0, 0, 0, 1])
         # 2 abandons, which disables 1 and ends the round; the next one waits for 2 alone
-        self.assertEqual([watched(lines[: at + 1]).rounds - 2 for at in (8, 9, 10)], [0, 1, 2])
+        self.assertEqual([last_rounds(lines[: at + 1]) for at in (8, 9, 10)], [0, 1, 2])
         watch = watched(lines)
         self.assertEqual((watch.steps, watch.pairs, watch.enabled), (6, 1, set()))
         self.assertEqual(watch.moves, {"update": 0, "marry": 3, "seduce": 2, "abandon": 1})
@@ -84,24 +90,23 @@ class Rounds(Timed):
     def test_by_hand_with_several_movers(self) -> None:
         # 1 and 2 move; only 3 was enabled then; 2 and 3 update; 1 sees 2's flag and abandons: four rounds
         lines = AT_ONCE.splitlines()
-        self.assertEqual([watched(lines[: at + 1]).rounds for at in range(2, 8)], [0, 1, 2, 3, 4, 4])
+        self.assertEqual([last_rounds(lines[: at + 1]) for at in range(2, 8)], [0, 1, 2, 3, 4, 4])
         self.assertEqual(watched(lines).moves, {"update": 2, "marry": 1, "seduce": 2, "abandon": 1})
 
     def test_an_edit_cuts_a_round_off(self) -> None:
-        # 1-2 and 3-4 are linked, and 1 moves; 2, 3 and 4 are awaited, until an edge is cut
+        # 1-2 and 3-4 are linked, and 1 moves; 2, 3 and 4 are awaited, until an edge is cut: then 3 and 4
         lines = "matching hh 4|1 link 1 2 = ok|2 link 3 4 = ok|3 step 1 = 1:seduce>2|4 unlink 1 2 = ok".split("|")
-        watch = watched(lines)
-        self.assertEqual((watch.rounds, watch.awaited, watch.enabled), (0, set(), {3, 4}))
-        watch.follow("5 step 3 = 3:seduce>4")
-        self.assertEqual((watch.rounds, watch.awaited), (0, {4}))
-        watch.follow("6 step 4 = 4:marry>3")
-        self.assertEqual((watch.rounds, watch.is_silent), (1, True))
+        self.assertEqual((last_rounds(lines), watched(lines).enabled), (0, {3, 4}))
+        lines.append("5 step 3 = 3:seduce>4")
+        self.assertEqual(last_rounds(lines), 0)
+        lines.append("6 step 4 = 4:marry>3")
+        self.assertEqual((last_rounds(lines), watched(lines).is_silent), (1, True))
 
     def test_the_counts_at_each_node(self) -> None:
         """Random events, repeated changes of a hub among them: the counts are those of the rules' own definitions."""
         for seed, rule_set in itertools.product(range(4), ("hh", "manne")):
             drawn, state = random.Random(seed), State(rule_set, 9, range(1, 9))
-            counts = rounds.Counts(state)
+            counts = Counts(state)
             for _ in range(400):
                 nodes = sorted(state.neighbours)
                 a, b = drawn.sample([1, *nodes] if 1 in nodes else nodes, 2)
@@ -134,7 +139,9 @@ class Rounds(Timed):
                     net.enabled()
                 said = net.transcript()
                 self.expect_enabled(said)
-                for burst in bursts(said):
+                found = bursts(said)
+                self.assertEqual(sum(it.rounds for it in found), sum(counted_rounds(said)))
+                for burst in found:
                     assert burst.bound is not None
                     self.assertLessEqual(burst.moves, burst.bound, burst)
                     self.assertLessEqual({*burst.moved}, {*burst.reached}, burst)
@@ -237,8 +244,8 @@ class Bursts(Timed):
         self.assertRaises(TypeError, bursts, 3)
 
     def test_a_program_that_lists_other_epochs(self) -> None:
-        epochs = audits.judged_epochs(ROW)
-        for listed in (epochs[:2], [*epochs, epochs[1]]):
+        found = audits.judged_epochs(ROW)
+        for listed in (found[:2], [*found, found[1]]):
             with mock.patch("rudekpi.bursts.judged_epochs", lambda *_, made=listed: made):
                 self.assertRaisesRegex(Garbled, "the program lists", bursts, ROW)
 

@@ -13,6 +13,7 @@ import unittest
 from typing import TYPE_CHECKING, Callable, Iterable, Optional, Sequence
 
 from rudekpi import Damaged, Network, Turns, audit, epochs
+from rudekpi.audits import HEAD
 from rudekpi.replies import Name
 from support import TOP, Timed, play, spelled, told
 
@@ -139,10 +140,10 @@ def by_nodes(text: str, table: str) -> str:
         return table
     told = []
     for row in rows:
-        start, moves, edges, nodes, bound, cost = row.split(",")
+        start, moves, edges, nodes, bound, *rest = row.split(",")
         n = int(nodes)
         most = int(bound) if start == "-" else min(int(bound), max(0, n * n // 2 + n - 2))
-        told.append(f"{start},{moves},{edges},{nodes},{most},{cost}")
+        told.append(",".join([start, moves, edges, nodes, f"{most}", *rest]))
     return "\n".join([head, *told]) + "\n"
 
 
@@ -170,10 +171,11 @@ class Judged(Timed):
             with self.subTest(case.name):
                 try:
                     found = epochs(text)
-                    # the program lists all but the last column, the reach
-                    told = [dataclasses.astuple(row)[:-1] for row in found]
-                    rows = [["-" if it is None else str(it) for it in row] for row in told]
-                    said = "start,moves,edges,nodes,bound,cost\n" + "".join(",".join(row) + "\n" for row in rows)
+                    # the program lists all but the reach
+                    columns = HEAD.strip().split(",")
+                    told = [dataclasses.asdict(row) for row in found]
+                    rows = [["-" if row[it] is None else str(row[it]) for it in columns] for row in told]
+                    said = HEAD + "".join(",".join(row) + "\n" for row in rows)
                 except Damaged as damaged:
                     said = f"line {damaged.line}: {damaged.why}\n"
                 self.assertEqual(said, wanted)

@@ -252,10 +252,12 @@ class Transcripts(Timed):
                 self.assertEqual((caught.exception.line, caught.exception.why), (line, "bad base"))
 
     def test_epochs(self) -> None:
-        self.assertEqual(epochs(PAIR), [Epoch(0, 0, 0, 2, 2, None), Epoch(1, 2, 1, 2, 2, 2, 2)])
-        self.assertEqual(epochs(AT_BASE), [Epoch(None, 2, 1, 2, 4, None)])
+        self.assertEqual(epochs(PAIR), [Epoch(0, 0, 0, 2, 2, None), Epoch(1, 2, 1, 2, 2, 2, 2, 1)])
+        # the base comes before the last move, which is a round of its own
+        self.assertEqual(epochs(AT_BASE), [Epoch(None, 2, 1, 2, 4, None, rounds=1)])
         self.assertEqual(
-            epochs(AT_BASE + "4 unlink 1 2 = ok\n"), [Epoch(None, 2, 1, 2, 4, None), Epoch(4, 0, 0, 2, 2, 0, 2)]
+            epochs(AT_BASE + "4 unlink 1 2 = ok\n"),
+            [Epoch(None, 2, 1, 2, 4, None, rounds=1), Epoch(4, 0, 0, 2, 2, 0, 2)],
         )
 
     def test_a_replay_goes_on(self) -> None:

@@ -73,7 +73,7 @@ class HandedOn(Timed):
             text,
         )
         self.assertTrue(said("audit", given=text).startswith("accepted: 7 entries"))
-        self.assertEqual(said("epochs", given=text).splitlines()[0], "start,moves,edges,nodes,bound,cost")
+        self.assertEqual(said("epochs", given=text).splitlines()[0], "start,moves,edges,nodes,bound,cost,rounds")
         console = [os.environ["RUDEKPI_CONSOLE"]]
         for words in (["run", "--help"], ["run"], ["audit", "--none"]):
             done, wanted = rudekpi(*words), subprocess.run(console + words, capture_output=True, encoding="utf-8")

@@ -143,10 +143,16 @@ class Reached(Timed):
     def test_the_field_stands_last_and_may_be_left_out(self) -> None:
         self.assertIsNone(Epoch(1, 2, 1, 2, 2, 2).reach)
         self.assertEqual(epochs("matching hh 2\n1 link 1 2 = ok\n")[1], Epoch(1, 0, 1, 2, 2, 2, 2))
+        self.assertEqual(Epoch(1, 2, 1, 2, 2, 2, 2, 1), Epoch(1, 2, 1, 2, 2, 2, reach=2, rounds=1))
+
+    def test_a_program_that_lists_no_rounds(self) -> None:
+        path = self.program("cat > /dev/null; echo start,moves,edges,nodes,bound,cost; echo 0,0,0,2,2,-")
+        with self.assertRaisesRegex(Garbled, "without rounds, so it is older than this package: name another"):
+            epochs("matching hh 2\n", program=path)
 
     def test_a_program_that_lists_other_epochs(self) -> None:
-        head = "cat > /dev/null; echo start,moves,edges,nodes,bound,cost; echo 0,0,0,2,2,-; "
-        for rows in ("true", "echo 2,0,1,2,4,2", "echo 1,0,1,2,4,2; echo 2,0,1,2,4,2"):
+        head = "cat > /dev/null; echo start,moves,edges,nodes,bound,cost,rounds; echo 0,0,0,2,2,-,0; "
+        for rows in ("true", "echo 2,0,1,2,4,2,0", "echo 1,0,1,2,4,2,0; echo 2,0,1,2,4,2,0"):
             with self.subTest(rows), self.assertRaisesRegex(Garbled, "other entries"):
                 epochs("matching hh 2\n1 link 1 2 = ok\n", program=self.program(head + rows))
 

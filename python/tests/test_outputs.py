@@ -15,6 +15,7 @@ from typing import Optional, Sequence
 from unittest import mock
 
 from rudekpi import Network, files, outputs
+from rudekpi.log_transcripts import Transcript
 from support import TOP, Timed
 
 EDGES = "1 2\n2 3\n3 4\n"
@@ -320,6 +321,16 @@ class Whole(Folder):
         run.communicate()
         self.assertEqual(run.returncode, 130)
         self.assertTrue((self.at / "c").read_text(encoding="utf-8").startswith("matching hh 2\n1 link 1 2 = ok\n"))
+        self.assertEqual([name for name in self.held() if name.startswith(".")], [])
+
+    def test_an_interrupt_while_the_file_is_opened(self) -> None:
+        """Nothing of the text is lost: the next call writes all of it, and no temporary file stays."""
+        with Transcript(self.at / "c") as transcript:
+            with mock.patch.object(files.WholeFile, "begin", side_effect=KeyboardInterrupt):
+                with self.assertRaises(KeyboardInterrupt):
+                    transcript.write(b"one\n")
+            transcript.write(b"two\n")
+        self.assertEqual((self.at / "c").read_text(encoding="utf-8"), "one\ntwo\n")
         self.assertEqual([name for name in self.held() if name.startswith(".")], [])
 
     def test_of_the_package(self) -> None:

@@ -1,7 +1,8 @@
-"""Rounds: the counts of the engine and the client against the definition, under each daemon; at their bounds."""
+"""Rounds: the counts of the engine, and of the table of epochs, against the definition; at their bounds."""
 
 from __future__ import annotations
 
+import functools
 import itertools
 import os
 import pickle
@@ -11,18 +12,18 @@ from typing import Callable, Iterator
 from unittest import mock
 
 from lib.counted_rounds import counted_rounds
-from rudekpi import Network, NoSuchCommand, NotCounted, Refused, Wish, daemons, graphs
+from rudekpi import Network, NoSuchCommand, NotCounted, Refused, Wish, audits, daemons, graphs
 from rudekpi.direct import Direct
 from rudekpi.library import NO_MEMORY
 from rudekpi.replies import Choice
-from rudekpi.rounds import Watch
 from rudekpi.rules import most_rounds
-from rudekpi.state import State
 from support import TOP, Timed
 
 # how many runs under each daemon
 RUNS = int(os.environ.get("RUDEKPI_ROUNDS_RUNS", "200"))
 WORDS = [*daemons.WORDS, "probability:0.5"]
+# two tests compare the same runs
+by_definition = functools.lru_cache(maxsize=None)(counted_rounds)
 
 
 def lawful() -> Iterator[tuple[str, str]]:
@@ -33,6 +34,7 @@ def lawful() -> Iterator[tuple[str, str]]:
             yield "hh", word
 
 
+@functools.lru_cache(maxsize=None)
 def run_of(rules: str, word: str, seed: int) -> str:
     """The transcript of a random network that settles twice, and may be disturbed before its silence."""
     drawn, nodes = random.Random(seed), range(1, 8)
@@ -51,18 +53,9 @@ def run_of(rules: str, word: str, seed: int) -> str:
         return net.transcript()
 
 
-def of_the_client(transcript: str) -> list[int]:
-    """The rounds of each epoch, as the client counts them."""
-    head, *lines = transcript.splitlines()
-    state = State()
-    state.follow([head])
-    watch, found, before = Watch(state), [0], 0
-    for line in lines:
-        if line.endswith(" = ok"):
-            found, before = [*found, 0], watch.rounds
-        watch.follow(line)
-        found[-1] = watch.rounds - before
-    return found
+def of_the_table(transcript: str) -> list[int]:
+    """The rounds of each epoch, as the program's table of epochs has them."""
+    return [epoch.rounds for epoch in audits.judged_epochs(transcript)]
 
 
 def of_the_engine(transcript: str) -> tuple[list[int], list[int]]:
@@ -98,7 +91,7 @@ def longest_run(n: int) -> Iterator[Choice]:
 
 class Agreement(Timed):
     engines = ("library",)
-    seconds = 180
+    seconds = max(180, RUNS)
 
     def test_each_daemon(self) -> None:
         """In each epoch of random runs: the same count, within the bound and within what was left."""
@@ -107,18 +100,31 @@ class Agreement(Timed):
             for seed in range(RUNS):
                 text = run_of(rules, word, seed)
                 found, least = of_the_engine(text)
-                self.assertEqual(found, counted_rounds(text), (rules, word, seed))
-                self.assertEqual(found, of_the_client(text), (rules, word, seed))
+                self.assertEqual(found, by_definition(text), (rules, word, seed))
                 self.assertTrue(all(map(int.__le__, found, least)), (rules, word, seed))
                 most = max(most, *found)
             with self.subTest(rules, word=word):
                 self.assertGreater(most, 2)
                 self.assertLessEqual(most, most_rounds(rules, 7))
 
+    def test_the_table_of_epochs(self) -> None:
+        """It has the same count in each epoch."""
+        if audits.judged(["epochs"], "matching hh 1\n".encode(), None).startswith(audits.WITHOUT_ROUNDS):
+            self.skipTest("the program lists epochs without rounds")
+        for rules, word in lawful():
+            most = 0
+            for seed in range(RUNS):
+                text = run_of(rules, word, seed)
+                found = of_the_table(text)
+                self.assertEqual(found, by_definition(text), (rules, word, seed))
+                most = max(most, *found)
+            with self.subTest(rules, word=word):
+                self.assertGreater(most, 2)
+
     def test_the_longest_runs_of_six_nodes(self) -> None:
         for name, most in (("reaches_its_bound_hh", 6), ("most_rounds", 12)):
             text = example(name)
-            for found in (of_the_client(text), of_the_engine(text)[0], counted_rounds(text)):
+            for found in (of_the_table(text), of_the_engine(text)[0], counted_rounds(text)):
                 self.assertEqual(found, [*[0] * 21, most], name)
             self.assertEqual(most, most_rounds("hh" if name.endswith("_hh") else "manne", 6))
 

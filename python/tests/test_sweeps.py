@@ -15,9 +15,9 @@ import unittest
 import unittest.mock
 from typing import Any, Generator, Iterable, Iterator, Union
 
+from lib.counted_rounds import Rounds
 from rudekpi import Enabled, Network, WrongChoice, audits, daemons, disturbances, graphs, sweeps, workers
 from rudekpi.replies import Name
-from rudekpi.rounds import watch_after
 from rudekpi.simple_graph import Graph
 from rudekpi.state import State
 from rudekpi.sweeps import AnyDaemon, Disturbance, Row, sweep
@@ -208,7 +208,18 @@ class Rows(Timed):
         self.assertEqual((row.steps, row.moves, row.rounds, row.pairs), (4, 6, 4, 1))
         self.assertEqual((row.update, row.marry, row.seduce, row.abandon), (2, 1, 2, 1))
 
-    def test_rounds_of_the_engine_are_those_of_the_transcript(self) -> None:
+    def rounds_after(self, transcript: str, entry: int) -> int:
+        """How many rounds are complete after an entry, by their definition; a disturbance cuts a round off."""
+        lines, state, found = transcript.splitlines(), State(), 0
+        state.follow(lines[: entry + 1])
+        rounds = Rounds(state)
+        for line in lines[entry + 1 :]:
+            before = rounds.rounds
+            rounds.follow(line)
+            found += max(0, rounds.rounds - before)
+        return found
+
+    def test_rounds_are_those_of_the_transcript(self) -> None:
         trace = Trace("t", (TraceEvent(0, "unlink", ("1", "2")), TraceEvent(1, "link", ("1", "2"))))
         hits = [Disturbance(), Disturbance(9), Disturbance(6, every=2), Disturbance(2, joins=2, leaves=3, cut=2)]
         hits += [Disturbance(trace=trace), Disturbance(trace=trace, every=1)]
@@ -218,8 +229,7 @@ class Rows(Timed):
             played = it.played()
             row = it.measured(played, 0)
             with self.subTest(row=row):
-                self.assertEqual(row.rounds, watch_after(played.transcript, played.before.entry).rounds)
-                self.assertEqual(played.rounds, row.rounds if self.engine == "library" else None)
+                self.assertEqual(row.rounds, self.rounds_after(played.transcript, played.before.entry))
                 if row.most_rounds is not None:
                     self.assertLessEqual(row.rounds, row.most_rounds)
                 most = max(most, row.rounds)

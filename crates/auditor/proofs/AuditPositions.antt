@@ -1,5 +1,5 @@
 -- How far an audit is, part by part.
-use Rattle.auditor.proofs.Prelude.{◌≡◌, ℕ, ◌+◌, ◌≤◌, inr, List, [], ◌∷◌, ◌++◌, Option, Some, Err, take, sum_by, refl, sym, ap, subst, ◌∙◌, append_assoc, append-nil, arith, length-append, sum_by-append, Base, RuleSet, State, LogPart, EntryPart, BasePart, NumberedMoment, base_of, entries_in, Entry, table_of, base_head, base_text, header_text, header_line, entry_text, first_line, SpellsHeader, base_lines, base_text_is, first_line-splits, BadHeader, NotALine, OutOfOrder, NotTheMachines, BadBase, Read, Memory, AuditFault, Summary, Opening, Opens, opening_text, size_of, IsTranscript, NextPart, disturbances_in, reply_moves, BeginsWithTranscript, TranscriptPrefix, BeginsBase, IsLineBehind, HasNoEntry, Position, stand_of, position_at, counted_more, counted_part, GoodLine, BadNumber, BadReply, LineJudged, IsFurther, Counts, IsAccepted, IsPositionAfter, IsMetBehind}
+use Rattle.auditor.proofs.Prelude.{◌≡◌, ℕ, ◌+◌, ◌≤◌, inr, List, [], ◌∷◌, ◌++◌, Option, Some, Err, take, sum_by, refl, sym, ap, subst, ◌∙◌, append_assoc, append-nil, arith, length-append, sum_by-append, Base, RuleSet, State, LogPart, EntryPart, BasePart, NumberedMoment, base_of, entries_in, Entry, table_of, base_head, base_text, header_text, header_line, entry_text, first_line, SpellsHeader, base_lines, base_text_is, first_line-splits, BadHeader, NotALine, OutOfOrder, NotTheMachines, BadBase, Read, Memory, AuditFault, Summary, Opening, Opens, opening_text, size_of, IsTranscript, NextPart, disturbances_in, reply_moves, BeginsWithTranscript, TranscriptPrefix, BeginsBase, IsLineBehind, HasNoEntry, Position, stand_of, position_at, counted_more, counted_part, GoodLine, BadNumber, BadReply, LineJudged, IsFurther, Counts, IsPositionAfter, IsMetBehind}
 use Rattle.auditor.proofs.LineCounts.{PartAt}
 use Rattle.auditor.proofs.Steps.{follows_more}
 

@@ -1,5 +1,5 @@
 -- Of as many entries of one text there is one run, through one state after another.
-use Rattle.auditor.proofs.Prelude.{◌≡◌, ℕ, ◌+◌, List, [], ◌∷◌, Option, None, Some, drop, map, get_or, refl, sym, ap, ap₂, subst, ◌∙◌, Reply, RuleSet, State, RuleTable, LogPart, NumberedMoment, entries_in, Entry, Moment, Epoch, epochs_from, Answers, spent_after, table_of, IsPath, answers_once, cost_by, CostedEpoch, Opening, size_of, BeginsWithTranscript, EndsAt, IsStateAfter, AreCostedEpochs, costs_along, costs_in, epochs_in, first_epoch}
+use Rattle.auditor.proofs.Prelude.{◌≡◌, ℕ, ◌+◌, List, [], ◌∷◌, Option, None, Some, drop, map, get_or, refl, sym, ap, ap₂, subst, ◌∙◌, Reply, RuleSet, State, RuleTable, LogPart, NumberedMoment, entries_in, Entry, Moment, Epoch, epochs_from, Answers, spent_after, table_of, IsPath, answers_once, cost_by, CostedEpoch, Opening, size_of, BeginsWithTranscript, EndsAt, IsStateAfter, AreCostedEpochs, costs_along, costs_in, epochs_in, first_epoch, rounds_in_rows, rounds_along}
 use Rattle.auditor.proofs.Chains.{Stops, chain_level, nothing_stops}
 use Rattle.auditor.proofs.Openings.{parts_behind}
 use Rattle.auditor.proofs.TextEnds.{Split, Ended, begun, chain_behind, chain_same, ended_once, ends_here, followed, run_once, split_at, transcript_ends, whole}
@@ -60,16 +60,19 @@ path_once t start ((entry, next) ∷ path) ((other, following) ∷ also) (answer
     let rest = path_once t (at following start.spent other.1) path also (subst (λ (m : Moment). IsPath t m path) moment is) was behind in
     ap₂ (λ (x : Entry) (l : List Stage). (x, next) ∷ l) same rest ∙ ap (λ (s : State). (other, s) ∷ also) there
 
--- rows of the same epochs with the same costs
-rows_same : (rows others : List CostedEpoch) → epochs_in rows ≡ epochs_in others → costs_in rows ≡ costs_in others → rows ≡ others
-rows_same [] [] e c = refl
-rows_same [] (other ∷ others) e c = absurd cc
-rows_same (row ∷ rows) [] e c = absurd cc
-rows_same (row ∷ rows) (other ∷ others) e c =
+-- rows of the same epochs with the same costs and rounds
+rows_same : (rows others : List CostedEpoch) → epochs_in rows ≡ epochs_in others → costs_in rows ≡ costs_in others → rounds_in_rows rows ≡ rounds_in_rows others → rows ≡ others
+rows_same [] [] e c r = refl
+rows_same [] (other ∷ others) e c r = absurd cc
+rows_same (row ∷ rows) [] e c r = absurd cc
+rows_same (row ∷ rows) (other ∷ others) e c r =
     let epoch : row.epoch ≡ other.epoch = ap (λ (l : List Epoch). get_or l 0 row.epoch) e in
     let cost : row.cost ≡ other.cost = ap (λ (l : List (Option ℕ)). get_or l 0 row.cost) c in
-    let rest = rows_same rows others (ap (λ (l : List Epoch). drop 1 l) e) (ap (λ (l : List (Option ℕ)). drop 1 l) c) in
-    ap₂ {C = List CostedEpoch} (λ (x : Epoch) (y : Option ℕ). record { epoch = x; cost = y } ∷ rows) epoch cost ∙ ap (λ (l : List CostedEpoch). other ∷ l) rest
+    let rounds : row.rounds ≡ other.rounds = ap (λ (l : List ℕ). get_or l 0 row.rounds) r in
+    let rest = rows_same rows others (ap (λ (l : List Epoch). drop 1 l) e) (ap (λ (l : List (Option ℕ)). drop 1 l) c) (ap (λ (l : List ℕ). drop 1 l) r) in
+    ap₂ {C = List CostedEpoch} (λ (x : Epoch) (y : Option ℕ). record { epoch = x; cost = y; rounds = row.rounds } ∷ rows) epoch cost
+    ∙ ap (λ (n : ℕ). record { epoch = other.epoch; cost = other.cost; rounds = n } ∷ rows) rounds
+    ∙ ap (λ (l : List CostedEpoch). other ∷ l) rest
 
 pub epochs_once : (bytes : List ℕ) (r q : RuleSet) (rows others : List CostedEpoch) → AreCostedEpochs bytes r rows → AreCostedEpochs bytes q others → (r ≡ q) × (rows ≡ others)
 epochs_once bytes r q rows others x y =
@@ -95,4 +98,9 @@ epochs_once bytes r q rows others x y =
     ∙ ap₂ (λ (z : RuleSet) (m : NumberedMoment). None ∷ costs_along (cost_by z) m.moment.state x.path) once.rules starts
     ∙ ap (λ (p : List Stage). None ∷ costs_along (cost_by q) begin.moment.state p) same
     ∙ sym y.costs in
-    (once.rules, rows_same rows others epochs costs)
+    let rounds =
+    x.rounds
+    ∙ ap₂ (λ (z : RuleSet) (m : NumberedMoment). rounds_along (table_of z) m.moment.state [] x.path) once.rules starts
+    ∙ ap (λ (p : List Stage). rounds_along (table_of q) begin.moment.state [] p) same
+    ∙ sym y.rounds in
+    (once.rules, rows_same rows others epochs costs rounds)

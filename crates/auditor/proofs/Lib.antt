@@ -21,6 +21,8 @@ pub mod PieceReading
 pub mod CursorPositions
 pub mod EpochSteps
 mod NextCosts
+pub mod EpochRounds
+mod EpochBounds
 mod EpochCosts
 pub mod TranscriptEnds
 pub mod IncrementalAudits

@@ -78,7 +78,8 @@ pub use Rattle.auditor.specs.AcceptedRuns.{Counts, IsAccepted, IsPositionAfter}
 pub use Rattle.auditor.specs.AuditPieces.{HasReadPieces}
 pub use Rattle.auditor.specs.Damage.{BeginsWithTranscript, TranscriptPrefix, BeginsBase, IsLineBehind, HasNoEntry, HasBadHeader, IsDamage, CommonPrefix, SpellsNoHead, SpellsNoHeader, line_feeds, HasBadStart, HasBrokenBase, HasImpossibleBase, EntryComes, EndsInBadBase}
 pub use Rattle.auditor.specs.EntryWindows.{IsMetBehind, EndsAt, IsStateAfter, HasTooFew, IsReplayFault, IsAskedBeyond, IsMetFirst, IsOpened, IsAskedWithin, IsLongEnough, falls_short, HasDroppedEntry, IsDamageWithin, IsMetDamage}
-pub use Rattle.auditor.specs.Epochs.{AreCostedEpochs, ArePaid, costs_along, costs_by, first_epoch, paid_by, IsNextCost, IsWithinItsBound, costs_in, epochs_in, rows_at, rows_by}
+pub use Rattle.auditor.specs.Epochs.{AreCostedEpochs, ArePaid, costs_along, costs_by, first_epoch, paid_by, IsNextCost, IsWithinItsBound, costs_in, epochs_in, rows_at, rows_by, rounds_in_rows, rounds_ended_by, rounds_along, rounds_bound, HasFewRounds, changes, IsEntryAhead, start_at_part, log_at}
+pub use Rattle.auditor.specs.CountedParts.{IsReadyAhead, FollowsAhead, KeepsCount}
 pub use Rattle.auditor.specs.Parts.{Opening, Opens, opening_text, size_of, count_after, part_text, parts_text, Named, Based, IsOpening, present_of, base_in, StepsTo}
 pub use Rattle.auditor.specs.Position.{Position, stand_of, position_at, counted_more, counted_part, GoodLine, BadNumber, BadReply, LineJudged, IsFurther}
 pub use Rattle.auditor.specs.Transcript.{IsTranscript, NextPart, disturbances_in, reply_moves, IsLogPart, epoch_count, move_count, SameRun}

@@ -158,7 +158,7 @@ comes_other rest number entry x =
 pub comes_no_base : (rest : List ℕ) (number : ℕ) (entry : Entry) → EntryComes rest number entry → BeginsBase rest → ⊥
 comes_no_base rest number entry x begins = other_no_base rest _ (comes_other rest number entry x) begins.1
 
-kept_begins : (rules : RuleSet) (size : ℕ) (at : NumberedMoment) (rest : List ℕ) (base : Base) (next : NumberedMoment) (behind : List ℕ) → NextPart rules size at rest (BasePart base) next behind → BeginsBase rest
+pub kept_begins : (rules : RuleSet) (size : ℕ) (at : NumberedMoment) (rest : List ℕ) (base : Base) (next : NumberedMoment) (behind : List ℕ) → NextPart rules size at rest (BasePart base) next behind → BeginsBase rest
 kept_begins rules size at rest base next behind x = (drop 9 (base_text rules size base ++ behind), x.is)
 
 none_comes : (rest : List ℕ) (number : ℕ) (entry : Entry) → HasNoEntry rest (first_line rest) → EntryComes rest number entry → ⊥

@@ -1,5 +1,5 @@
 -- Where the run of a transcript ends, and what an audit's result says of the counts.
-use Rattle.auditor.proofs.Prelude.{◌≡◌, ◌⊎◌, inl, inr, ℕ, List, [], Result, Ok, Err, refl, sym, ap, subst, ◌∙◌, RuleSet, NumberedMoment, entries_in, AuditFault, Read, Memory, Summary, TranscriptCursor, IsAccepted, Counts, IsTranscript, Position, stand_of, IsCursorAt, IsJudged, IsAuditFault, IsAuditResult, IfOk, IfErr, OnOk, same_Some, result_err}
+use Rattle.auditor.proofs.Prelude.{◌≡◌, inl, inr, ℕ, List, [], Result, Ok, Err, refl, sym, ap, subst, ◌∙◌, RuleSet, NumberedMoment, entries_in, AuditFault, Summary, TranscriptCursor, IsAccepted, Counts, IsTranscript, stand_of, IsCursorAt, IsJudged, IsAuditFault, IsAuditResult, IfOk, IfErr, OnOk, same_Some, result_err}
 use Rattle.auditor.specs.declared.transcript_end.TranscriptEnd.{TranscriptEnd}
 use Rattle.auditor.specs.TranscriptEnds.{IsTranscriptEnd, MayGoOn, EndsRun, IsEndResult, end_moment, summary_in}
 use Rattle.auditor.proofs.AuditPositions.{all_good}

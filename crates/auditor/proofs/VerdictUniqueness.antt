@@ -1,6 +1,5 @@
 -- What was judged is the one verdict of the text.
-use Rattle.auditor.proofs.Prelude.{◌≡◌, ℕ, ◌⊎◌, inl, inr, List, Option, None, Some, IfSome, Result, Ok, Err, IfErr, refl, sym, ap, subst, AuditFault, Read, Memory, Summary, IsAccepted, IsDamage, IsJudged, IsAuditFault, IsAuditResult, AcceptsRuns, NamesDamage}
-use Rattle.std.proofs.Common.{IfOk}
+use Rattle.auditor.proofs.Prelude.{◌≡◌, ℕ, ◌⊎◌, inl, inr, List, Option, None, Some, IfSome, Result, Ok, Err, IfErr, refl, ap, subst, AuditFault, Read, Memory, Summary, IsAccepted, IsDamage, IsJudged, IsAuditFault, IsAuditResult, AcceptsRuns, NamesDamage}
 use Rattle.auditor.proofs.TextEnds.{damage_once, count_once, accepted_no_damage}
 
 pub judged_accepts : (bytes : List ℕ) (result : Result Summary AuditFault) → IsJudged bytes result → (counted : Summary) → IsAccepted bytes counted → (result ≡ Ok counted) ⊎ (result ≡ Err Memory)

@@ -1,5 +1,6 @@
 pub mod Parts
 pub mod Transcript
+pub mod CountedParts
 pub mod Damage
 pub mod Position
 pub mod AcceptedRuns

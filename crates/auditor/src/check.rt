@@ -57,6 +57,7 @@ impl Audit {
     pub(crate) fn counted(&self) -> Summary
         ensures counted { result ≡ self.now.counted }
         ensures few { result.moves ≤ 1099494850560 }
+        ensures entries { result.entries ≤ 16777216 }
     {
         self.counted
     }

@@ -15,7 +15,7 @@ pub struct Epoch {
     nodes: u32,
 }
 
-/// An epoch, and the cost of the disturbance that began it.
+/// An epoch, the cost of the disturbance that began it, and its rounds.
 #[derive(Clone, Copy)]
 pub struct CostedEpoch {
     /// The epoch.
@@ -24,6 +24,10 @@ pub struct CostedEpoch {
     ///
     /// The bound is computed from the state before the disturbance, by the degrees of the nodes it touched.
     pub cost: Option<u32>,
+    /// The complete rounds of the epoch; if it began before the base that opens the transcript, since that base.
+    ///
+    /// An accepted disturbance cuts a round off.
+    pub rounds: u32,
 }
 
 impl Model for Epoch {

@@ -8,7 +8,7 @@
 //!
 //! `PieceAudit` is fed a text in pieces, cut anywhere; `audit` reads a text from a reader. `state_after`
 //! returns the state after an entry, `end_of` the end of the run. `epochs_of` returns, for each disturbance,
-//! its cost, the moves after it, and the bound on these moves.
+//! its cost, the moves after it, the bound on these moves, and the complete rounds.
 //!
 //! ```rust
 //! match audit(alloc, &mut CountingReader::new(stdin)) {
@@ -20,6 +20,7 @@
 #![tactic(auto)]
 
 mod check;
+mod counted_part;
 mod epoch;
 mod epoch_list;
 mod fault;

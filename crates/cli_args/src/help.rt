@@ -143,6 +143,7 @@ these fields:
   edges, nodes   the size of its network
   bound  the most moves that an epoch of this size has
   cost   the most that its disturbance added to the charge; - in the first epoch
+  rounds its complete rounds; since the base if one is at the transcript's start
 Costs add up: the moves of an epoch may exceed its own cost, if earlier epochs
 ended before the network was silent. A transcript that audit refuses is refused
 in the same words.

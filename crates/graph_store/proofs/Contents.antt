@@ -1,49 +1,38 @@
 -- The names in rows that are vectors, whatever their capacities.
-use Rattle.graph_store.proofs.Prelude.{◌≡◌, ℕ, suc, ◌-◌, ◌<◌, ◌≤◌, List, [], ◌∷◌, map, length, get_or, set, sym, ap, ◌∙◌, ◌+◌, take, drop, ◌++◌, append_assoc, arith, Result, Ok, Err, MatchResult, insert, remove, is_ok, vec_len, vec_capacity, Vec, Global, map-set_same, take-append-add, map-set, get_or-map, get_or_past, length-map, ext_get_or, get_or-take, get_or-drop, take_rest, length-take-le, take-take, take-append-le, drop-drop, contents, row_at, has, HasRoom, IsPlaceOf, IsGapFor}
+use Rattle.graph_store.proofs.Prelude.{◌≡◌, ◌≢◌, set, length-set, get_or-set_same, get_or-set_other, ℕ, suc, ◌-◌, ◌<◌, ◌≤◌, List, [], length, get_or, sym, ap, ◌∙◌, ◌+◌, take, drop, ◌++◌, append_assoc, arith, Result, Ok, Err, MatchResult, remove, is_ok, vec_len, vec_capacity, Vec, Global, map-set_same, take-append-add, get_or-map, ext_get_or, get_or-take, get_or-drop, take_rest, length-take-le, take-take, take-append-le, drop-drop, contents, row_at, spare_at, has, IsPlaceOf, IsGapFor}
 use Rattle.std.proofs.Common.{length-take, length-drop}
 use Rattle.graph_store.proofs.AscendingLists.{there_at_place, absent_at_gap}
-
--- there are as many lists of names as vectors
-pub length_contents : (rows : List (Vec ℕ Global)) → length (contents rows) ≡ length rows
-length_contents rows = length-map rows (λ (row : Vec ℕ Global). row.items)
 
 -- the names in the vector that was read at a place
 pub row_read : (rows read : List (Vec ℕ Global)) (v p : ℕ) (r : Vec ℕ Global) → read ≡ rows → p ≡ v → v < length rows → r ≡ get_or read p r → r.items ≡ row_at (contents rows) v
 row_read rows read v p r all same inside is =
     ap (λ (row : Vec ℕ Global). row.items) (is ∙ (λ i. get_or (all i) (same i) r)) ∙ sym (get_or-map (λ (row : Vec ℕ Global). row.items) rows v r [] inside)
 
--- past the last row there are no names
-pub row_past : (rows read : List (Vec ℕ Global)) (v p : ℕ) → read ≡ rows → p ≡ v → length read ≤ p → row_at (contents rows) v ≡ []
-row_past rows read v p all same past =
-    get_or_past (contents rows) v [] (omega (arith, length_contents rows, past, same, ap length all))
-
 -- a vector with the same names changes no names
 pub contents_kept : (rows : List (Vec ℕ Global)) (p : ℕ) (d r : Vec ℕ Global) → r.items ≡ (get_or rows p d).items → contents (set rows p r) ≡ contents rows
 contents_kept rows p d r same = map-set_same (λ (row : Vec ℕ Global). row.items) rows p r d same
 
--- a vector with other names changes the names at its place
-contents_set : (rows : List (Vec ℕ Global)) (v p : ℕ) (d r : Vec ℕ Global) (change : List ℕ → List ℕ) → p ≡ v → v < length rows → r.items ≡ change (get_or rows p d).items → contents (set rows p r) ≡ set (contents rows) v (change (row_at (contents rows) v))
-contents_set rows v p d r change same inside is =
-    let there : (get_or rows p d).items ≡ row_at (contents rows) v = ap (λ k. (get_or rows k d).items) same ∙ sym (get_or-map (λ (row : Vec ℕ Global). row.items) rows v d [] inside) in
-    let after : r.items ≡ change (row_at (contents rows) v) = is ∙ ap change there in
-    map-set (λ (row : Vec ℕ Global). row.items) rows p r ∙ (λ i. set (contents rows) (same i) (after i))
+-- two tables with the same vector at an index have the same names and the same room there
+pub same_row : (old new : List (Vec ℕ Global)) (v : ℕ) (d : Vec ℕ Global) → v < length old → v < length new → get_or new v d ≡ get_or old v d → (row_at (contents new) v ≡ row_at (contents old) v) × (spare_at new v ≡ spare_at old v)
+same_row old new v d inside inside' same = (
+  get_or-map (λ (row : Vec ℕ Global). row.items) new v d [] inside' ∙ ap (λ (row : Vec ℕ Global). row.items) same ∙ sym (get_or-map (λ (row : Vec ℕ Global). row.items) old v d [] inside),
+  get_or-map (λ (row : Vec ℕ Global). vec_capacity row - vec_len row) new v d 0 inside' ∙ ap (λ (row : Vec ℕ Global). vec_capacity row - vec_len row) same ∙ sym (get_or-map (λ (row : Vec ℕ Global). vec_capacity row - vec_len row) old v d 0 inside),
+)
 
--- a name put in
-pub contents_put : (rows : List (Vec ℕ Global)) (v p place name : ℕ) (d r : Vec ℕ Global) → p ≡ v → v < length rows → r.items ≡ insert (get_or rows p d).items place name → contents (set rows p r) ≡ set (contents rows) v (insert (row_at (contents rows) v) place name)
-contents_put rows v p place name d r same inside after = contents_set rows v p d r (λ l. insert l place name) same inside after
+-- a vector written at an index changes no other
+pub row_elsewhere : (rows : List (Vec ℕ Global)) (p v : ℕ) (x : Vec ℕ Global) → v ≢ p → v < length rows → (row_at (contents (set rows p x)) v ≡ row_at (contents rows) v) × (spare_at (set rows p x) v ≡ spare_at rows v)
+row_elsewhere rows p v x apart inside =
+    same_row rows (set rows p x) v x inside (let len = length-set rows p x in omega (arith, len, inside)) (get_or-set_other rows p v x x apart)
 
--- a name taken out
-pub contents_taken : (rows : List (Vec ℕ Global)) (v p place : ℕ) (d r : Vec ℕ Global) → p ≡ v → v < length rows → r.items ≡ remove (get_or rows p d).items place → contents (set rows p r) ≡ set (contents rows) v (remove (row_at (contents rows) v) place)
-contents_taken rows v p place d r same inside after = contents_set rows v p d r (λ l. remove l place) same inside after
-
--- for how many more names a row has room
-abbrev spare : Vec ℕ Global → ℕ
-spare row = vec_capacity row - vec_len row
-
--- the room that is counted at a place
-pub room_counted : (rows : List (Vec ℕ Global)) (v : ℕ) → v < length rows → HasRoom rows v → 0 < get_or (map spare rows) v 0
-room_counted [] v inside room = absurd (omega (arith, inside))
-room_counted (r ∷ rows) v inside room = omega (arith, get_or-map spare (r ∷ rows) v r 0 inside, room r)
+-- and its names and its room are what is there then
+pub row_written : (rows : List (Vec ℕ Global)) (p : ℕ) (x : Vec ℕ Global) → p < length rows → (row_at (contents (set rows p x)) p ≡ x.items) × (spare_at (set rows p x) p ≡ vec_capacity x - vec_len x)
+row_written rows p x inside =
+    let len = length-set rows p x in
+    let inside' : p < length (set rows p x) = omega (arith, len, inside) in
+    let read = get_or-set_same rows p x x inside in (
+      get_or-map (λ (row : Vec ℕ Global). row.items) (set rows p x) p x [] inside' ∙ ap (λ (row : Vec ℕ Global). row.items) read,
+      get_or-map (λ (row : Vec ℕ Global). vec_capacity row - vec_len row) (set rows p x) p x 0 inside' ∙ ap (λ (row : Vec ℕ Global). vec_capacity row - vec_len row) read,
+    )
 
 -- a look-up finds what the table has
 pub found : (row : List ℕ) (name : ℕ) (r : Result ℕ ℕ) → MatchResult r (IsPlaceOf row name) (IsGapFor row name) → is_ok r ≡ has row name

@@ -1,7 +1,6 @@
 -- Which fault a call has, and the row that a call reads.
-use Rattle.graph_store.proofs.Prelude.{◌≡◌, ◌≢◌, ℕ, ◌<◌, ◌≤◌, Bool, true, false, cond, not, ◌&&◌, List, length, get_or, None, Some, eqb, sym, refl, ap, ◌∙◌, arith, nat_le, Vec, Global, leb-false, true≢false, Network, present, linked, edge, edge_count, max_edges, UnknownNode, SelfLoop, AlreadyLinked, NotLinked, TooManyEdges, ends_fault, link_fault, unlink_fault, contents, row_at, has, network_of, IsRows, IsPlaceOf, present_range, linked_back}
+use Rattle.graph_store.proofs.Prelude.{◌≡◌, ◌≢◌, ℕ, ◌<◌, ◌≤◌, Bool, true, false, cond, not, ◌&&◌, List, length, None, Some, eqb, sym, ap, ◌∙◌, arith, nat_le, leb-false, true≢false, Network, present, linked, edge, edge_count, max_edges, UnknownNode, SelfLoop, AlreadyLinked, NotLinked, TooManyEdges, ends_fault, link_fault, unlink_fault, row_at, has, network_of, IsRows, IsPlaceOf, present_range, linked_back}
 use Rattle.graph_store.proofs.PairOrder.{count-some}
-use Rattle.graph_store.proofs.Contents.{row_read, length_contents}
 use Rattle.graph_store.proofs.AscendingLists.{there_at_place}
 use Rattle.graph_store.proofs.Store.{linked_by, linked_present}
 
@@ -49,16 +48,11 @@ known size roll rows net v seen here =
     ap (λ n. present n v) seen ∙ here
 
 -- a node has a row
-pub has_row : (size : ℕ) (roll : List Bool) (rows : List (Vec ℕ Global)) (net : Network) (v : ℕ) → network_of size roll (contents rows) ≡ net → IsRows size roll (contents rows) → present net v ≡ true → v < length rows
+pub has_row : (size : ℕ) (roll : List Bool) (rows : List (List ℕ)) (net : Network) (v : ℕ) → network_of size roll rows ≡ net → IsRows size roll rows → present net v ≡ true → v < length rows
 has_row size roll rows net v seen good here =
-    let bounds = present_range (network_of size roll (contents rows)) v (known size roll (contents rows) net v seen here) in
+    let bounds = present_range (network_of size roll rows) v (known size roll rows net v seen here) in
     let places = good.places in
-    omega (arith, bounds.1, places, length_contents rows)
-
--- the row that is read at a node's place
-pub row_here : (size : ℕ) (roll : List Bool) (rows : List (Vec ℕ Global)) (net : Network) (v p : ℕ) (r : Vec ℕ Global) (row : List ℕ) → network_of size roll (contents rows) ≡ net → IsRows size roll (contents rows) → present net v ≡ true → p ≡ v → r ≡ get_or rows p r → row ≡ r.items → row ≡ row_at (contents rows) v
-row_here size roll rows net v p r row seen good here same is items =
-    items ∙ row_read rows rows v p r refl same (has_row size roll rows net v seen good here) is
+    omega (arith, bounds.1, places)
 
 -- two names are linked if one is found in the other's row
 pub linked_at_place : (size : ℕ) (roll : List Bool) (rows : List (List ℕ)) (net : Network) (a b i : ℕ) (row : List ℕ) → network_of size roll rows ≡ net → IsRows size roll rows → row ≡ row_at rows a → IsPlaceOf row b i → linked net a b ≡ true

@@ -12,3 +12,5 @@ pub mod PresentRows
 pub mod LeavingNodes
 pub mod PairLists
 pub mod OpenEdges
+pub mod PooledRows
+pub mod PoolChanges

@@ -1,7 +1,6 @@
 -- How many edges are open, as an edge comes or goes and as a name turns.
-use Rattle.graph_store.proofs.Prelude.{◌≡◌, ℕ, ◌+◌, ◌<◌, ◌≤◌, min, max, Bool, true, false, cond, ◌&&◌, List, [], length, count_by, replicate, get_or, set, refl, sym, ap, ap₂, ◌∙◌, ⊎_elim, arith, ltb, Vec, Global, from_bool, range_with_len, length-range_with_len, length-filter, count_by-le-length, and_parts, cases_lt, cases_eq, ltb-true, get_or-set_other, get_or-set_same, length-replicate, get_or-replicate, get_or_past, Network, IsNetwork, PairSet, edge, names, linked, present, count_agree, zeros, count_filter, one_node_changes, count_with, count_without, count_empty, count_all_few, EdgeStance, Shut, are_open, end_at, open_among, CountsOpenEdges, contents, has, row_at, edges_of, network_of, IsRows, IsStore}
+use Rattle.graph_store.proofs.Prelude.{◌≡◌, ℕ, ◌+◌, ◌<◌, ◌≤◌, min, max, Bool, true, false, cond, ◌&&◌, List, [], length, count_by, replicate, set, sym, ap, ap₂, ◌∙◌, ⊎_elim, arith, ltb, from_bool, range_with_len, length-range_with_len, length-filter, count_by-le-length, and_parts, cases_lt, cases_eq, ltb-true, get_or-set_other, get_or-set_same, length-replicate, get_or-replicate, get_or_past, Network, IsNetwork, PairSet, edge, names, linked, present, count_agree, zeros, count_filter, one_node_changes, count_with, count_without, count_empty, count_all_few, EdgeStance, Shut, are_open, end_at, open_among, CountsOpenEdges, has, row_at, edges_of, network_of, IsRows, IsStore}
 use Rattle.std.specs.FinMap as map
-use Rattle.graph_store.proofs.Contents.{row_read, length_contents}
 use Rattle.graph_store.proofs.Pairs.{has-edges_of}
 use Rattle.graph_store.proofs.Store.{empty_network, neighbours_row, linked_row}
 
@@ -47,12 +46,6 @@ few_open size roll edges rows ends count store counts =
     let all = store.counted in
     let most = store.few_edges in
     omega (arith, few, is, all, most)
-
--- the row that is read at a name's place, whether the name is present or not
-pub row_named : (size : ℕ) (roll : List Bool) (rows : List (Vec ℕ Global)) (v p : ℕ) (r : Vec ℕ Global) (row : List ℕ) → IsRows size roll (contents rows) → v ≤ size → p ≡ v → r ≡ get_or rows p r → row ≡ r.items → row ≡ row_at (contents rows) v
-row_named size roll rows v p r row good within same is items =
-    let places = good.places in
-    items ∙ row_read rows rows v p r refl same (omega (arith, length_contents rows, within, places)) is
 
 -- a row has no more names than there are
 pub few_in_row : (size : ℕ) (roll : List Bool) (rows : List (List ℕ)) (v : ℕ) → IsRows size roll rows → length (row_at rows v) ≤ size

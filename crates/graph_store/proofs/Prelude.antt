@@ -1,5 +1,5 @@
 -- What the proofs of this crate import from the crates below and from its own definitions.
-pub use Rattle.std.proofs.Common.{◌≡◌, ◌≢◌, ℕ, ◌+◌, ◌-◌, ◌<◌, ◌≤◌, suc, zero, Bool, true, false, not, cond, ◌&&◌, ◌||◌, List, [], ◌∷◌, ◌++◌, length, eqb, get_or, take, drop, sym, refl, ap, ◌∙◌, arith, add-one, ⊎_elim, map, set, append_assoc, Result, Ok, Err, MatchResult, None, Some, ◌/◌, ◌^◌, subst, min, max, leb, ltb, Option, count_by, replicate, ap₂, IfOk, OnOk, inl, inr, ◌⊎◌, slice_set, SomeIff}
+pub use Rattle.std.proofs.Common.{◌≡◌, ◌≢◌, ℕ, ◌+◌, ◌*◌, ◌-◌, ◌<◌, ◌≤◌, suc, zero, Bool, true, false, not, cond, ◌&&◌, ◌||◌, List, [], ◌∷◌, ◌++◌, length, eqb, get_or, take, drop, sym, refl, ap, ◌∙◌, arith, add-one, ⊎_elim, map, set, append_assoc, Result, Ok, Err, MatchResult, None, Some, ◌/◌, ◌^◌, subst, min, max, leb, ltb, Option, count_by, replicate, ap₂, IfOk, OnOk, inl, inr, ◌⊎◌, slice_set, SomeIff}
 pub use Rattle.std.proofs.Math.Bool.{and-false, or-false}
 pub use Rattle.std.proofs.Math.Nat.{pow-succ'}
 pub use Rattle.std.proofs.Math.Seq.{drop-cons, map-set_same, take-append-add}
@@ -41,7 +41,9 @@ pub use Rattle.rule_machine.specs.Refuse.{max_edges}
 pub use Rattle.graph_store.specs.EdgeStances.{are_open, end_at, open_among, CountsOpenEdges}
 pub use Rattle.graph_store.specs.Fault.{ends_fault, link_fault, unlink_fault, leave_fault}
 pub use Rattle.graph_store.specs.Graph.{Graph, HasRoomFor}
-pub use Rattle.graph_store.specs.Rows.{has, IsPlaceOf, IsGapFor, contents, row_at, HasRoom, network_of, IsRows, IsPartFor, edges_of, IsStore, pairs_from, put_both, take_both}
+pub use Rattle.graph_store.specs.RowPools.{names_at, no_head, head_at, is_long, row_of, room_of, spare_at, lists_of, rooms_of, AreDisjointParts, IsPool, RowLists}
+pub use Rattle.graph_store.specs.Rows.{has, IsPlaceOf, IsGapFor, contents, row_at, network_of, IsRows, IsPartFor, edges_of, IsStore, pairs_from, put_both, take_both}
 pub use Rattle.graph_store.specs.declared.edge_stance.EdgeStance.{EdgeStance}
 pub use Rattle.graph_store.specs.declared.edge_stance.EdgeStance.TheVariants.{Shut}
+pub use Rattle.graph_store.specs.declared.row_pool.Head.{Head}
 pub use Rattle.graph_store.specs.declared.fault.GraphFault.TheVariants.{UnknownNode, SelfLoop, AlreadyLinked, NotLinked, TooManyEdges}

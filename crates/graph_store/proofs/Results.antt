@@ -12,6 +12,11 @@ on_ok_map_err P Q (Ok y) v R passed step h = subst (λ w. OnOk w Q) (sym passed)
 on_ok_map_err P Q (Err d) (Ok x) R passed step h = absurd passed
 on_ok_map_err P Q (Err d) (Err e) R passed step h = tt
 
+-- what follows from an `Ok` holds after it
+pub on_ok_weaker : {T E : Type 0} (P Q : Type 0) (r : Result T E) → (P → Q) → OnOk r P → OnOk r Q
+on_ok_weaker P Q (Ok y) step h = step h
+on_ok_weaker P Q (Err d) step h = tt
+
 -- a later place of a rising list has no lower name
 pub never_falls : (xs : List ℕ) → IsStrictlyIncreasing xs → (i j : ℕ) → i ≤ j → j < length xs → get_or xs i 0 ≤ get_or xs j 0
 never_falls xs up i j le inside =

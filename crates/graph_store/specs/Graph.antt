@@ -1,13 +1,11 @@
 -- A store of edges as contracts see it.
-use Rattle.std.specs.Prelude.{ℕ, ◌<◌, ◌-◌, Bool, List, map, slice_index_or, refl}
+use Rattle.std.specs.Prelude.{ℕ, ◌<◌, Bool, List, slice_index_or, refl}
 use Rattle.std.specs.Coded.{Coded, code_by, coded×, coded_ℕ, coded_list}
-use Rattle.std.specs.Vec.{vec_len, vec_capacity}
-use Rattle.std.specs.declared.vec.Vec.{Vec}
-use Rattle.std.specs.declared.alloc.Global.{Global}
 use Rattle.rule_machine.specs.Network.{Network, network_code}
 use Rattle.graph_store.specs.declared.edge_stance.EdgeStance.{EdgeStance}
 use Rattle.graph_store.specs.EdgeStances.{end_code}
-use Rattle.graph_store.specs.Rows.{contents, network_of}
+use Rattle.graph_store.specs.RowPools.{RowLists}
+use Rattle.graph_store.specs.Rows.{network_of}
 
 -- A network; for each name, the room for further neighbours and the stance on its edges. Both lists
 -- have an entry for each name.
@@ -21,10 +19,10 @@ graph_code =
     code_by (Network × (List ℕ × List EdgeStance)) (coded× network_code (coded× (coded_list coded_ℕ) (coded_list end_code))) (λ g. (g.network, (g.room, g.ends))) (λ p. record { network = p.0; room = p.1.0; ends = p.1.1 }) (λ _. refl)
 
 -- the graph that contracts see of a store with these parts
-abbrev pub graph_of : ℕ → List Bool → List (Vec ℕ Global) → List EdgeStance → Graph
+abbrev pub graph_of : ℕ → List Bool → RowLists → List EdgeStance → Graph
 graph_of size roll rows ends = record {
-  network = network_of size roll (contents rows);
-  room = map (λ row. vec_capacity row - vec_len row) rows;
+  network = network_of size roll rows.lists;
+  room = rows.room;
   ends = ends;
 }
 

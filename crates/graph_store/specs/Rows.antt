@@ -2,7 +2,6 @@
 use Rattle.std.specs.Prelude.{◌≡◌, ℕ, ◌+◌, ◌<◌, ◌≤◌, Bool, true, false, List, [], ◌∷◌, ◌++◌, map, filter, length, nat_eq, nat_lt, slice_index, slice_index_or, slice_set, IsTrue}
 use Rattle.std.specs.List.{insert, list_any, remove}
 use Rattle.std.specs.List.Sorted.{IsStrictlyIncreasing}
-use Rattle.std.specs.Vec.{vec_len, vec_capacity}
 use Rattle.std.specs.declared.vec.Vec.{Vec}
 use Rattle.std.specs.declared.alloc.Global.{Global}
 use Rattle.rule_machine.specs.Network.{Network, PairSet, pair_set, edge_count, present}
@@ -79,7 +78,3 @@ pub record IsPartFor (row : List ℕ) (w start size : ℕ) : Type 0 where
   pub some : 0 < size
   pub below : (k : ℕ) → k < start → slice_index row k < w
   pub above : (k : ℕ) → start + size ≤ k → k < length row → w < slice_index row k
-
--- the row of v has room for one more name
-abbrev pub HasRoom : List (Vec ℕ Global) → ℕ → Type 0
-HasRoom rows v = (d : Vec ℕ Global) → vec_len (slice_index_or rows v d) < vec_capacity (slice_index_or rows v d)

@@ -10,9 +10,8 @@ ghost use Rattle.graph_store.specs.Rows.{has, IsGapFor, IsPlaceOf};
 ghost use Rattle.graph_store.specs.declared.fault.GraphFault.TheVariants.{Memory};
 
 use crate::edge_stance::{are_open, shut_ends, turn_end};
-use crate::rows::{
-    empty_rows, find_gap, find_place, guess_gap, list_pairs, put_both, reserve_both, take_both,
-};
+use crate::row_pool::Rows;
+use crate::rows::{find_gap, find_place, guess_gap};
 use crate::{EdgeStance, GraphFault};
 use enabled_set::EnabledSet;
 use rule_machine::{Edge, MAX_EDGES, MAX_NAME, Node, Want};
@@ -22,11 +21,12 @@ use std::marker::Model;
 /// A network of nodes named 1 to a fixed capacity, as sorted neighbour lists.
 ///
 /// Contracts see the network, the room in each list, and each name's stance (`EdgeStance`) on its edges.
-/// Memory: two bytes for each neighbour; for each name a list, a bit (present) and a byte (stance).
+/// Memory, for each name: 8 bytes, a bit (present), a byte (stance) and a block of 16, 32, 48 or 64 neighbours,
+/// two bytes each. A longer list has a vector of its own.
 /// An absent name has no neighbours.
 #[derive(Drop)]
 pub struct EdgeStore {
-    rows: Vec<Vec<Node>>,
+    rows: Rows,
     nodes: u32,
     here: EnabledSet,
     edges: u32,
@@ -40,21 +40,21 @@ pub struct EdgeStore {
 
 impl Model for EdgeStore {
     ghost use Rattle.graph_store.specs.Graph.{Graph, graph_code, graph_of};
-    ghost use Rattle.graph_store.specs.Rows.{contents, IsStore};
+    ghost use Rattle.graph_store.specs.Rows.{IsStore};
     ghost use Rattle.graph_store.specs.EdgeStances.{CountsOpenEdges};
 
     ghost Value = { Graph };
 
     ghost coded = { graph_code };
 
-    ghost view = { λ s. graph_of s.nodes s.here s.rows.items s.ends.items };
+    ghost view = { λ s. graph_of s.nodes s.here s.rows s.ends.items };
 
-    ghost invariant = { λ s. IsStore s.nodes s.here s.edges (contents s.rows.items) × CountsOpenEdges s.nodes (contents s.rows.items) s.ends.items s.all_shut s.open_edges };
+    ghost invariant = { λ s. IsStore s.nodes s.here s.edges s.rows.lists × CountsOpenEdges s.nodes s.rows.lists s.ends.items s.all_shut s.open_edges };
 }
 
 impl EdgeStore {
     /// The graph of the nodes 1 to `nodes`, all present, without edges. No further node can join.
-    /// Takes memory for an empty list, a byte and a bit for each node.
+    /// Takes 9 bytes and a bit for each node.
     /// Errors: `TooManyNodes` if `nodes` is above 65,535; `Memory` if memory runs out.
     pub fn new(alloc: Global, nodes: u32) -> Result<EdgeStore, GraphFault>
         ensures ok { IfOk result (λ store. store.network ≡ edgeless nodes) }
@@ -75,7 +75,7 @@ impl EdgeStore {
         if nodes > MAX_NAME {
             return Err(GraphFault::TooManyNodes);
         }
-        let rows = empty_rows(alloc, nodes as usize + 1).map_err(|_| GraphFault::Memory)?;
+        let rows = Rows::new(alloc, nodes as usize + 1).map_err(|_| GraphFault::Memory)?;
         let here = first_names(alloc, nodes, present).map_err(|_| GraphFault::Memory)?;
         let ends = shut_ends(alloc, nodes as usize + 1).map_err(|_| GraphFault::Memory)?;
         Ok(EdgeStore {
@@ -137,10 +137,10 @@ impl EdgeStore {
         ensures present { IsTrue result → IsTrue (present self.now.network a) × IsTrue (present self.now.network b) }
         ensures apart { IsTrue result → a ≢ b }
     {
-        match self.rows.get(a.place()) {
-            Some(row) => find_place(row, b).is_ok(),
-            None => false,
+        if a.name() > self.nodes {
+            return false;
         }
+        find_place(self.rows.row(a), b).is_ok()
     }
 
     /// The neighbours of a node, ascending.
@@ -152,7 +152,7 @@ impl EdgeStore {
         ensures rising { IsStrictlyIncreasing result.now }
         ensures found { (w : ℕ) → has result.now w ≡ linked self.now.network node w }
     {
-        &self.rows[node.place()]
+        self.rows.row(node)
     }
 
     /// The edges, ascending by lower end, then by higher end.
@@ -162,7 +162,7 @@ impl EdgeStore {
         ensures list { IfOk result (λ edges. edges.items ≡ edge_list self.now.network) }
         ensures few { IfOk result (λ edges. length edges.items ≤ 1048576) }
     {
-        list_pairs(self.rows.allocator().clone()?, &self.rows, self.edges)
+        self.rows.list_pairs(self.edges)
     }
 
     /// How many edges are open by the stances of their ends. One look.
@@ -184,13 +184,7 @@ impl EdgeStore {
     {
         if self.ends[v.place()] != end {
             self.all_shut = false;
-            self.open_edges = turn_end(
-                &self.rows[v.place()],
-                &mut self.ends,
-                self.open_edges,
-                v,
-                end,
-            );
+            self.open_edges = turn_end(self.rows.row(v), &mut self.ends, self.open_edges, v, end);
         }
     }
 
@@ -255,7 +249,7 @@ impl EdgeStore {
         ensures unchanged { self.new.network ≡ self.old.network }
         ensures ends { self.new.ends ≡ self.old.ends }
     {
-        reserve_both(&mut self.rows, a, b).map_err(|_| GraphFault::Memory)
+        self.rows.reserve_both(a, b).map_err(|_| GraphFault::Memory)
     }
 
     fn put_edge(&mut self, a: Node, place_in_a: usize, b: Node, place_in_b: usize)
@@ -266,7 +260,7 @@ impl EdgeStore {
         ensures network { self.new.network ≡ with_edge self.old.network a b }
         ensures ends { self.new.ends ≡ self.old.ends }
     {
-        put_both(&mut self.rows, a, place_in_a, b, place_in_b);
+        self.rows.put_both(a, place_in_a, b, place_in_b);
         self.edges += 1;
         self.open_edges += u32::from(are_open(&self.ends, self.all_shut, a, b));
     }
@@ -318,7 +312,7 @@ impl EdgeStore {
         requires { IsTrue (linked self.now.network v w) }
         ensures { IsPlaceOf (neighbours self.now.network v) w result }
     {
-        match find_place(&self.rows[v.place()], w) {
+        match find_place(self.rows.row(v), w) {
             Ok(place) => place,
             Err(gap) => gap,
         }
@@ -332,7 +326,7 @@ impl EdgeStore {
     {
         let place_in_a = self.find_edge(a, b);
         let place_in_b = self.find_edge(b, a);
-        take_both(&mut self.rows, a, place_in_a, b, place_in_b);
+        self.rows.take_both(a, place_in_a, b, place_in_b);
         self.edges -= 1;
         self.open_edges -= u32::from(are_open(&self.ends, self.all_shut, a, b));
     }
@@ -375,7 +369,7 @@ impl EdgeStore {
         requires { IsTrue (present self.now.network v) }
         ensures { MatchOption result (neighbours self.now.network v ≡ []) (λ w. unlink_fault self.now.network v w ≡ None) }
     {
-        self.rows[v.place()].last().copied()
+        self.rows.row(v).last().copied()
     }
 
     /// Removes a node and its edges.

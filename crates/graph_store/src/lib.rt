@@ -15,9 +15,11 @@
 //! ```
 #![tactic(auto)]
 
+mod blocks;
 mod edge_stance;
 mod edge_store;
 mod fault;
+mod row_pool;
 mod rows;
 
 pub use edge_stance::EdgeStance;

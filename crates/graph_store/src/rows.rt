@@ -1,23 +1,12 @@
 //! Neighbour lists, ascending.
 
-ghost use Rattle.std.specs.Prelude.{◌≡◌, ◌++◌, filter, map, nat_lt, ◌≢◌, ℕ, ◌+◌, ◌<◌, ◌≤◌, [], length, replicate, slice_set, IfOk, IfSome, IsNone, OnOk, MatchResult, IsTrue, slice_index, ◌-◌, ◌/◌, ◌∷◌, take, drop, true, false};
+ghost use Rattle.std.specs.Prelude.{◌≡◌, ◌+◌, ◌<◌, ◌≤◌, length, IfSome, IsNone, MatchResult, IsTrue, slice_index, ◌-◌, ◌/◌, ◌∷◌, take, drop, true, false};
 ghost use Rattle.std.specs.List.{insert, remove};
 ghost use Rattle.std.specs.List.Sorted.{IsStrictlyIncreasing};
 ghost use Rattle.std.specs.Vec.{vec_len, vec_capacity};
-ghost use Rattle.graph_store.specs.Rows.{contents, pairs_from, put_both, row_at, take_both, has, IsPlaceOf, IsGapFor, IsPartFor, HasRoom};
+ghost use Rattle.graph_store.specs.Rows.{has, IsPlaceOf, IsGapFor, IsPartFor};
 
-use rule_machine::{Edge, Node, Want};
-use std::alloc::Global;
-
-pub fn empty_rows(alloc: Global, count: usize) -> Result<Vec<Vec<Node>>, Want>
-    ensures { IfOk result (λ rows. contents rows.items ≡ replicate count []) }
-{
-    let mut rows = Vec::with_capacity(alloc, count)?;
-    for _ in 0..count {
-        rows.push(Vec::new(alloc))?;
-    }
-    Ok(rows)
-}
+use rule_machine::Node;
 
 // The longest part that is halved without a branch.
 const SHORT: usize = 64;
@@ -161,25 +150,9 @@ pub fn guess_gap(row: &[Node], guess: usize, name: Node) -> usize
     find_gap(row, name)
 }
 
-// By how many names a full row grows: as many as fit the smallest block of memory.
-const MORE: usize = 12;
-
-fn make_room(rows: &mut [Vec<Node>], node: Node) -> Result<(), Want>
-    requires { node < length rows.old }
-    ensures names { contents rows.new ≡ contents rows.old }
-    ensures room { OnOk result (HasRoom rows.new node) }
-    ensures others { (v : ℕ) → HasRoom rows.old v → HasRoom rows.new v }
-{
-    let row = &mut rows[node.place()];
-    if row.len() < row.capacity() {
-        return Ok(());
-    }
-    row.reserve(MORE)
-}
-
 /// Shifts a row's tail up by one, dropping its last name, and puts `name` first.
 /// The loop compiles to one move of memory; `Vec::insert` does not.
-fn put_first(tail: &mut [Node], name: Node)
+pub fn put_first(tail: &mut [Node], name: Node)
     requires { 0 < length tail.old }
     ensures { tail.new ≡ name ∷ take (length tail.old - 1) tail.old }
 {
@@ -191,7 +164,7 @@ fn put_first(tail: &mut [Node], name: Node)
     tail[0] = name;
 }
 
-fn put_at(row: &mut Vec<Node>, place: usize, name: Node)
+pub fn put_at(row: &mut Vec<Node>, place: usize, name: Node)
     requires inside { place ≤ length row.old.items }
     requires room { vec_len row.old < vec_capacity row.old }
     ensures { row.new.items ≡ insert row.old.items place name }
@@ -200,42 +173,8 @@ fn put_at(row: &mut Vec<Node>, place: usize, name: Node)
     put_first(&mut row[place..], name);
 }
 
-fn put_in(rows: &mut [Vec<Node>], node: Node, place: usize, name: Node)
-    requires known { node < length rows.old }
-    requires inside { place ≤ length (row_at (contents rows.old) node) }
-    requires room { HasRoom rows.old node }
-    ensures names { contents rows.new ≡ slice_set (contents rows.old) node (insert (row_at (contents rows.old) node) place name) }
-    ensures others { (v : ℕ) → v ≢ node → HasRoom rows.old v → HasRoom rows.new v }
-{
-    put_at(&mut rows[node.place()], place, name);
-}
-
-pub fn reserve_both(rows: &mut [Vec<Node>], a: Node, b: Node) -> Result<(), Want>
-    requires a_known { a < length rows.old }
-    requires b_known { b < length rows.old }
-    ensures names { contents rows.new ≡ contents rows.old }
-    ensures room { OnOk result (HasRoom rows.new a × HasRoom rows.new b) }
-{
-    make_room(rows, a)?;
-    make_room(rows, b)
-}
-
-pub fn put_both(rows: &mut [Vec<Node>], a: Node, place_in_a: usize, b: Node, place_in_b: usize)
-    requires apart { a ≢ b }
-    requires a_known { a < length rows.old }
-    requires b_known { b < length rows.old }
-    requires inside_a { place_in_a ≤ length (row_at (contents rows.old) a) }
-    requires inside_b { place_in_b ≤ length (row_at (contents rows.old) b) }
-    requires room_in_a { HasRoom rows.old a }
-    requires room_in_b { HasRoom rows.old b }
-    ensures { contents rows.new ≡ put_both (contents rows.old) a place_in_a b place_in_b }
-{
-    put_in(rows, a, place_in_a, b);
-    put_in(rows, b, place_in_b, a);
-}
-
 /// Shifts a row's tail down by one, over its first name. The last name is then there twice.
-fn drop_first(tail: &mut [Node])
+pub fn drop_first(tail: &mut [Node])
     ensures { take (length tail.old - 1) tail.new ≡ drop 1 tail.old }
 {
     for at in 1..tail.len() {
@@ -243,54 +182,10 @@ fn drop_first(tail: &mut [Node])
     }
 }
 
-fn take_at(row: &mut Vec<Node>, place: usize)
+pub fn take_at(row: &mut Vec<Node>, place: usize)
     requires { place < length row.old.items }
     ensures { row.new.items ≡ remove row.old.items place }
 {
     drop_first(&mut row[place..]);
     let _last = row.pop();
-}
-
-fn take_out(rows: &mut [Vec<Node>], node: Node, place: usize)
-    requires known { node < length rows.old }
-    requires inside { place < length (row_at (contents rows.old) node) }
-    ensures { contents rows.new ≡ slice_set (contents rows.old) node (remove (row_at (contents rows.old) node) place) }
-{
-    take_at(&mut rows[node.place()], place);
-}
-
-pub fn take_both(rows: &mut [Vec<Node>], a: Node, place_in_a: usize, b: Node, place_in_b: usize)
-    requires apart { a ≢ b }
-    requires a_known { a < length rows.old }
-    requires b_known { b < length rows.old }
-    requires inside_a { place_in_a < length (row_at (contents rows.old) a) }
-    requires inside_b { place_in_b < length (row_at (contents rows.old) b) }
-    ensures { contents rows.new ≡ take_both (contents rows.old) a place_in_a b place_in_b }
-{
-    take_out(rows, a, place_in_a);
-    take_out(rows, b, place_in_b);
-}
-
-fn push_above(pairs: &mut Vec<Edge>, v: Node, row: &[Node]) -> Result<(), Want>
-    ensures { OnOk result (pairs.new.items ≡ pairs.old.items ++ map (λ w. (v, w)) (filter (nat_lt v) row.now)) }
-{
-    for &w in row {
-        if v < w {
-            pairs.push(Edge::new(v, w).unwrap())?;
-        }
-    }
-    Ok(())
-}
-
-/// Takes memory for `count` edges.
-pub fn list_pairs(alloc: Global, rows: &[Vec<Node>], count: u32) -> Result<Vec<Edge>, Want>
-    requires few { length rows.now ≤ 65536 }
-    requires nobody { row_at (contents rows.now) 0 ≡ [] }
-    ensures { IfOk result (λ pairs. pairs.items ≡ pairs_from 0 (contents rows.now)) }
-{
-    let mut pairs = Vec::with_capacity(alloc, count as usize)?;
-    for place in 1..rows.len() {
-        push_above(&mut pairs, Node::new(place as u32).unwrap(), &rows[place])?;
-    }
-    Ok(pairs)
 }

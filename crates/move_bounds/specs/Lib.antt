@@ -1,4 +1,5 @@
 pub mod MovesLeft
+pub mod RoundsLeft
 pub mod FromSilence
 pub mod Present
 pub mod Unmarried

@@ -1,8 +1,8 @@
-//! Bounds on moves that a rule set has beyond its charge, as two traits of rule sets.
+//! Bounds on moves and rounds that a rule set has beyond its charge, as two traits of rule sets.
 //!
 //! `NodeBound` is a bound by the number of nodes alone, which is smaller than that by edges and nodes if there
 //! are many edges. The engine promises the smaller of the two (`Net::moves_left`). A rule set without such a
-//! bound returns `None`.
+//! bound returns `None`. The trait also has a bound on rounds by the number of nodes (`Net::rounds_left`).
 //!
 //! `SilentCost` is what one disturbance of a silent network costs. A network is silent if no rule is enabled.
 //! Few moves come after one disturbance of it: the laws of `silence_laws` bound these moves by the unmarried

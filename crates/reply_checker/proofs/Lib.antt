@@ -12,3 +12,4 @@ pub mod ContributionSums
 pub mod ChargeSums
 pub mod BaseStarts
 mod Degrees
+mod EnabledNodes

@@ -1,6 +1,7 @@
 //! Hsu and Huang's rules: one node moves at a time, and no flag is used.
 
-ghost use Rattle.std.specs.Prelude.{◌≡◌, ◌≤◌, All, IsTrue, find, is_none};
+ghost use Rattle.std.specs.Prelude.{◌≡◌, ◌≤◌, ◌||◌, All, IsTrue, find, is_none, is_some};
+ghost use Rattle.std.specs.List.{list_any};
 ghost use Rattle.rule_machine.specs.Network.{present};
 ghost use Rattle.rule_machine.specs.State as state;
 ghost use Rattle.rule_machine.specs.RuleTable as table;
@@ -33,6 +34,30 @@ pub(crate) fn rule_at(net: &NetState, v: Node) -> Option<Act>
         None if first_null(net, v).is_some() => Some(Act::Seduce),
         None => None,
     }
+}
+
+/// Whether a rule is enabled; stops at the first neighbour that decides.
+pub(crate) fn is_enabled(net: &NetState, v: Node) -> bool
+    requires { IsTrue (present net.now.state.network v) }
+    ensures { result ≡ is_some (table.rule_at hsu_huang net.now.state v) }
+{
+    match net.pointer(v) {
+        Some(w) => !points_back(net, v, w) && pointer(net, w).is_some(),
+        None => calls_any(net, net.neighbours(v), v),
+    }
+}
+
+/// Whether one of `row` points at `v` or has a null pointer.
+fn calls_any(net: &NetState, row: &[Node], v: Node) -> bool
+    requires { All (λ w. IsTrue (present net.now.state.network w)) row.now }
+    ensures { result ≡ list_any (λ w. state.suits net.now.state v w || is_none (state.pointer net.now.state w)) row.now }
+{
+    for &w in row {
+        if net.points(w, v) || net.pointer(w).is_none() {
+            return true;
+        }
+    }
+    false
 }
 
 pub(crate) fn is_allowed(net: &NetState, v: Node, act: Act, w: Node) -> bool

@@ -1,13 +1,14 @@
 //! Read access to a judge's network.
 
-ghost use Rattle.std.specs.Prelude.{◌≡◌, ◌≤◌, IsTrue};
+ghost use Rattle.std.specs.Prelude.{◌≡◌, ◌≤◌, IsTrue, is_some};
 ghost use Rattle.rule_machine.specs.Network as network;
 ghost use Rattle.rule_machine.specs.RuleTable as table;
 ghost use Rattle.rule_machine.specs.State as state;
 ghost use Rattle.rule_machine.specs.Tables.{table_of};
 
 use crate::Judge;
-use crate::rules::rule_at;
+use crate::rules::{is_enabled, rule_at};
+use graph_store::EdgeStore;
 use rule_machine::{Act, Node, RuleSet};
 
 impl Judge {
@@ -49,6 +50,14 @@ impl Judge {
         self.survey.net.neighbours(v)
     }
 
+    /// The network's edges.
+    pub fn store(&self) -> &EdgeStore
+        ensures network { result.now.network ≡ self.now.network }
+        ensures sound { state.IsState self.now }
+    {
+        self.survey.net.store()
+    }
+
     /// Whether `v` points at `w`.
     pub fn points(&self, v: Node, w: Node) -> bool
         ensures { result ≡ state.points self.now.registers v w }
@@ -70,5 +79,14 @@ impl Judge {
         ensures { result ≡ table.rule_at (table_of rules) self.now v }
     {
         rule_at(&self.survey.net, rules, v)
+    }
+
+    /// Whether a rule is enabled at a node. If its pointer is null, looks at its neighbours up to the first that
+    /// points at it or that it may court.
+    pub fn is_enabled(&self, rules: RuleSet, v: Node) -> bool
+        requires { IsTrue (network.present self.now.network v) }
+        ensures { result ≡ is_some (table.rule_at (table_of rules) self.now v) }
+    {
+        is_enabled(&self.survey.net, rules, v)
     }
 }

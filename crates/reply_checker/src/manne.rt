@@ -1,7 +1,8 @@
 //! The rules of Manne, Mjelde, Pilard and Tixeuil: any set of nodes moves at once, and flags show who is
 //! married.
 
-ghost use Rattle.std.specs.Prelude.{◌≡◌, ◌≤◌, ◌&&◌, All, IsTrue, Some, find, is_none, nat_lt, not};
+ghost use Rattle.std.specs.Prelude.{◌≡◌, ◌≤◌, ◌&&◌, ◌||◌, All, IsTrue, Some, find, is_none, is_some, nat_lt, not};
+ghost use Rattle.std.specs.List.{list_any};
 ghost use Rattle.rule_machine.specs.Charge.{manne_node_charge};
 ghost use Rattle.rule_machine.specs.Network.{neighbours, present};
 ghost use Rattle.rule_machine.specs.State as state;
@@ -35,6 +36,33 @@ pub(crate) fn rule_at(net: &NetState, v: Node) -> Option<Act>
         None if first_to_court(net, v).is_some() => Some(Act::Seduce),
         None => None,
     }
+}
+
+/// Whether a rule is enabled; stops at the first neighbour that decides.
+pub(crate) fn is_enabled(net: &NetState, v: Node) -> bool
+    requires { IsTrue (present net.now.state.network v) }
+    ensures { result ≡ is_some (table.rule_at manne net.now.state v) }
+{
+    if net.flag(v) != net.married(v) {
+        return true;
+    }
+    match net.pointer(v) {
+        Some(w) => !points_back(net, v, w) && (flag(net, w) || w <= v),
+        None => calls_any(net, net.neighbours(v), v),
+    }
+}
+
+/// Whether one of `row` points at `v`, or `v` may court it.
+fn calls_any(net: &NetState, row: &[Node], v: Node) -> bool
+    requires { All (λ w. IsTrue (present net.now.state.network w)) row.now }
+    ensures { result ≡ list_any (λ w. state.suits net.now.state v w || may_court net.now.state v w) row.now }
+{
+    for &w in row {
+        if net.points(w, v) || may_court(net, v, w) {
+            return true;
+        }
+    }
+    false
 }
 
 pub(crate) fn is_allowed(net: &NetState, v: Node, act: Act, w: Node) -> bool

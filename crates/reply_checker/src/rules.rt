@@ -1,6 +1,6 @@
 //! What differs by the rule set: each function dispatches to the file of its rules.
 
-ghost use Rattle.std.specs.Prelude.{◌≡◌, ◌≤◌, IsTrue};
+ghost use Rattle.std.specs.Prelude.{◌≡◌, ◌≤◌, IsTrue, is_some};
 ghost use Rattle.rule_machine.specs.Network.{present};
 ghost use Rattle.rule_machine.specs.RuleTable as table;
 ghost use Rattle.rule_machine.specs.Tables.{table_of};
@@ -21,6 +21,17 @@ pub(crate) fn rule_at(net: &NetState, rules: RuleSet, v: Node) -> Option<Act>
     match rules {
         RuleSet::Hh => hsu_huang::rule_at(net, v),
         RuleSet::Manne => manne::rule_at(net, v),
+    }
+}
+
+/// Whether a rule is enabled at a node. If the pointer is null, looks at neighbours up to the first that decides.
+pub(crate) fn is_enabled(net: &NetState, rules: RuleSet, v: Node) -> bool
+    requires { IsTrue (present net.now.state.network v) }
+    ensures { result ≡ is_some (table.rule_at (table_of rules) net.now.state v) }
+{
+    match rules {
+        RuleSet::Hh => hsu_huang::is_enabled(net, v),
+        RuleSet::Manne => manne::is_enabled(net, v),
     }
 }
 

@@ -18,4 +18,3 @@ pub mod Renumbering
 pub mod Resumption
 pub mod RowOutput
 pub mod RoundCalls
-pub mod RoundsLeft

@@ -8,8 +8,9 @@ use Rattle.rule_machine.specs.Tables.{table_of}
 use Rattle.round_laws.proofs.RoundCounts.{counted_whole}
 use Rattle.round_laws.specs.RoundCounts.{RoundCount, rounds_of}
 use Rattle.round_laws.specs.Rounds.{rounds_in}
-use Rattle.step_log.specs.Rounds.{HasRounds}
-use Rattle.rudekpi_c.specs.RoundCalls.{AnswersCounting, AnswersRounds, AnswersRoundsLeft, CountsLog, LeavesIfCounted, TellsRounds, TellsRoundsLeft, counted_from}
+use Rattle.rule_engine.specs.Rounds.{HasRounds}
+use Rattle.rule_engine.specs.RoundsLeft.{LeavesIfCounted}
+use Rattle.rudekpi_c.specs.RoundCalls.{AnswersCounting, AnswersRounds, AnswersRoundsLeft, CountsLog, TellsRounds, TellsRoundsLeft, counted_from}
 use Rattle.rudekpi_c.specs.Session.{stands, rules_of, GoesOn}
 use Rattle.rudekpi_c.specs.declared.session.Session.{Session}
 use Rattle.rudekpi_c.proofs.SessionCycle.{goes_from}

@@ -1,35 +1,16 @@
 -- The rounds of a session, for C.
-use Rattle.std.specs.Prelude.{◌≡◌, ◌⊎◌, ℕ, ◌≤◌, List, [], Option, None, Some}
-use Rattle.rule_machine.specs.Network.{Network}
-use Rattle.rule_machine.specs.RuleTable.{RuleTable, enabled_names}
-use Rattle.rule_machine.specs.Run.{Entry, Moment, Run}
-use Rattle.rule_machine.specs.State.{State, IsState}
+use Rattle.std.specs.Prelude.{◌≡◌, ◌⊎◌, ℕ, List, Option, None, Some}
+use Rattle.rule_machine.specs.RuleTable.{RuleTable}
+use Rattle.rule_machine.specs.Run.{Entry, Moment}
+use Rattle.rule_machine.specs.State.{State}
 use Rattle.rule_machine.specs.Tables.{table_of}
 use Rattle.machine_laws.specs.ChargeWords.{IsUndisturbed}
 use Rattle.round_laws.specs.RoundCounts.{RoundCount, count_of_log, first_count}
-use Rattle.round_laws.specs.Rounds.{rounds_from, rounds_in}
 use Rattle.script_text.specs.Script.{Progress}
-use Rattle.step_log.specs.Rounds.{HasRounds}
+use Rattle.rule_engine.specs.Rounds.{HasRounds}
+use Rattle.rule_engine.specs.RoundsLeft.{LeavesRounds}
 use Rattle.rudekpi_c.specs.Session.{stands, rules_of, GoesOn}
 use Rattle.rudekpi_c.specs.declared.session.Session.{Session}
-
--- no run of this network without a disturbance completes more rounds than this
-abbrev pub BoundsRounds : RuleTable → Network → ℕ → Type 0
-BoundsRounds t net most =
-    (start : Moment) → IsState start.state → (log : List Entry) (end : Moment) → Run t start log end → IsUndisturbed log → end.state.network ≡ net → rounds_in t start.state log ≤ most
-
--- A run without a disturbance leads to this moment, and this is the count of its rounds. However it goes on
--- without a disturbance, it completes at most this many rounds more: none in silence.
-pub record LeavesRounds (t : RuleTable) (m : Moment) (count : RoundCount) (left : ℕ) : Type 0 where
-  pub has : HasRounds t m count
-  pub most : (rest : List Entry) (end : Moment) → Run t m rest end → IsUndisturbed rest → rounds_from t m.state count.pending rest ≤ left
-  pub silent : enabled_names t m.state ≡ [] → left ≡ 0
-
--- none if rounds are not counted; else at most this many can still come
-abbrev pub LeavesIfCounted : RuleTable → Moment → Option RoundCount → Option ℕ → Type 0
-LeavesIfCounted t m None left = left ≡ None
-LeavesIfCounted t m (Some count) None = ⊥
-LeavesIfCounted t m (Some count) (Some left) = LeavesRounds t m count left
 
 -- the progress whose rounds are counted from here on
 abbrev pub counted_from : RuleTable → Progress → Progress

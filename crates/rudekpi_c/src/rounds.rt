@@ -4,66 +4,40 @@ ghost use Rattle.std.specs.Prelude.{◌≡◌, IfSome, OnErr, OnOk, List, Some};
 ghost use Rattle.machine_laws.specs.ChargeWords.{IsUndisturbed};
 ghost use Rattle.round_laws.specs.RoundCounts.{rounds_of};
 ghost use Rattle.round_laws.specs.Rounds.{rounds_in};
-ghost use Rattle.rule_machine.specs.HsuHuang.{hsu_huang};
-ghost use Rattle.rule_machine.specs.Manne.{manne};
 ghost use Rattle.rule_machine.specs.Run.{Entry};
 ghost use Rattle.rule_machine.specs.State.{State};
 ghost use Rattle.rule_machine.specs.Tables.{table_of};
 ghost use Rattle.run_session.specs.Line.{progress_of, recording_moment};
-ghost use Rattle.step_log.specs.Rounds.{HasRounds};
-ghost use Rattle.rudekpi_c.specs.RoundCalls.{AnswersCounting, AnswersRounds, AnswersRoundsLeft, BoundsRounds, CountsLog, LeavesIfCounted, counted_from};
+ghost use Rattle.rule_engine.specs.Rounds.{HasRounds};
+ghost use Rattle.rule_engine.specs.RoundsLeft.{LeavesIfCounted};
+ghost use Rattle.rudekpi_c.specs.RoundCalls.{AnswersCounting, AnswersRounds, AnswersRoundsLeft, CountsLog, counted_from};
 ghost use Rattle.rudekpi_c.specs.Session.{limit_of, stands, rules_of};
 ghost use Rattle.rudekpi_c.specs.declared.session.Session.{Session};
 
 use crate::session::{Machine, Session};
 use crate::slot::Slot;
 use crate::status::{DONE, MEMORY, NO_SESSION, NOT_COUNTED};
-use round_laws::{hsu_huang_rounds_are_few, manne_rounds_are_few};
-use rule_engine::NodeBound;
 use rule_machine::{Rules, Want};
-use rules_hsu_huang::HsuHuang;
-use rules_manne::Manne;
 use run_session::Run;
 use std::alloc::Global;
 
-fn count_rounds<R: Rules>(run: &mut Run<R>, alloc: Global) -> Result<(), Want>
+fn count_rounds<R: Rules>(run: &mut Run<R>) -> Result<(), Want>
     ensures ok { OnOk result (progress_of run.new ≡ counted_from R.table (progress_of run.old)) }
     ensures err { OnErr result (run.new ≡ run.old) }
     ensures limit { run.new.recorder.limit ≡ run.old.recorder.limit }
 {
-    run.recorder.count_rounds(alloc)
+    run.recorder.count_rounds()
 }
 
-/// At most as many rounds as moves can still come.
-fn rounds_left<R: NodeBound>(run: &mut Run<R>, most: u32) -> Option<u32>
-    requires { BoundsRounds R.table run.old.recorder.state.network most }
-    ensures left { LeavesIfCounted R.table (recording_moment run.old.recorder) run.old.recorder.counting result }
-    ensures kept { run.new ≡ run.old }
+fn rounds<R: Rules>(run: &Run<R>) -> Option<u32>
+    ensures count { result ≡ rounds_of run.now.recorder.counting }
+    ensures some { IfSome run.now.recorder.counting (λ count. HasRounds R.table (recording_moment run.now.recorder) count) }
 {
-    let Some(rounds) = run.recorder.rounds() else {
-        return None;
-    };
-    let moves = run.recorder.moves_left();
-    Some(most.saturating_sub(rounds).min(moves))
-}
-
-fn most_by_hsu_huang(run: &Run<HsuHuang>) -> u32
-    ensures { BoundsRounds hsu_huang run.now.recorder.state.network result }
-{
-    hsu_huang_rounds_are_few();
-    run.recorder.net().store().nodes()
-}
-
-fn most_by_manne(run: &Run<Manne>) -> u32
-    ensures { BoundsRounds manne run.now.recorder.state.network result }
-{
-    manne_rounds_are_few();
-    let nodes = run.recorder.net().store().nodes();
-    nodes + 2 * (nodes / 2)
+    run.recorder.net().rounds()
 }
 
 impl Session {
-    fn count_rounds(&mut self, alloc: Global) -> Result<(), Want>
+    fn count_rounds(&mut self) -> Result<(), Want>
         ensures ok { OnOk result (stands self.new ≡ counted_from (table_of (rules_of self.old)) (stands self.old)) }
         ensures err { OnErr result (self.new ≡ self.old) }
         ensures rules { rules_of self.new ≡ rules_of self.old }
@@ -73,8 +47,8 @@ impl Session {
         ensures answer { self.new.answer ≡ self.old.answer }
     {
         match &mut self.machine {
-            Machine::Hh(run) => count_rounds(run, alloc),
-            Machine::Manne(run) => count_rounds(run, alloc),
+            Machine::Hh(run) => count_rounds(run),
+            Machine::Manne(run) => count_rounds(run),
         }
     }
 
@@ -83,8 +57,8 @@ impl Session {
         ensures some { IfSome (stands self.now).counting (λ count. HasRounds (table_of (rules_of self.now)) (stands self.now).moment count) }
     {
         match &self.machine {
-            Machine::Hh(run) => run.recorder.rounds(),
-            Machine::Manne(run) => run.recorder.rounds(),
+            Machine::Hh(run) => rounds(run),
+            Machine::Manne(run) => rounds(run),
         }
     }
 
@@ -93,14 +67,8 @@ impl Session {
         ensures kept { self.new ≡ self.old }
     {
         match &mut self.machine {
-            Machine::Hh(run) => {
-                let most = most_by_hsu_huang(run);
-                rounds_left(run, most)
-            }
-            Machine::Manne(run) => {
-                let most = most_by_manne(run);
-                rounds_left(run, most)
-            }
+            Machine::Hh(run) => run.recorder.rounds_left(),
+            Machine::Manne(run) => run.recorder.rounds_left(),
         }
     }
 }
@@ -116,7 +84,7 @@ pub extern "C" fn rudekpi_count_rounds(alloc: Global, slot: &mut Slot) -> u32
     let Some(mut session) = slot.take(alloc) else {
         return NO_SESSION;
     };
-    let done = session.count_rounds(alloc);
+    let done = session.count_rounds();
     slot.put(session);
     match done {
         Ok(()) => DONE,

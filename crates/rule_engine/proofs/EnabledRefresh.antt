@@ -1,5 +1,5 @@
 -- Looks again near a change keep the set of enabled nodes.
-use Rattle.rule_engine.proofs.Prelude.{◌≡◌, ℕ, suc, ◌+◌, Bool, true, false, cond, ◌&&◌, ◌||◌, List, [], ◌∷◌, length, filter, find, replicate, Option, None, is_some, nat_eq, refl, sym, ap, ◌∙◌, subst, ⊎_elim, arith, range_with_len, cases_Bool, cond-true, cond-false, eqb-true, eq-eqb, length-replicate, nil_from_length, filter_agree, Act, Network, present, State, IsState, RuleTable, acts, rule_at, enabled_names, SameAt, quiet_at, act_none, is_in, members, is_enabled_at, AreOn, IsRefreshed, kept_twice}
+use Rattle.rule_engine.proofs.Prelude.{◌≡◌, ℕ, suc, ◌+◌, Bool, true, false, cond, ◌&&◌, ◌||◌, List, [], ◌∷◌, length, filter, find, Option, None, is_some, nat_eq, refl, sym, ap, ◌∙◌, subst, ⊎_elim, arith, range_with_len, cases_Bool, cond-true, cond-false, eqb-true, eq-eqb, nil_from_length, filter_agree, Act, Network, present, State, IsState, RuleTable, acts, rule_at, enabled_names, SameAt, is_in, members, is_enabled_at, AreOn, IsRefreshed, kept_twice}
 
 -- a guard depends only on what its node shows
 abbrev pub IsLocal : RuleTable → Type 0

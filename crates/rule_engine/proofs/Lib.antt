@@ -22,3 +22,5 @@ pub mod EventCosts
 pub mod ReachLists
 pub mod EnabledNames
 pub mod NetworkStarts
+pub mod CountedRounds
+pub mod RoundsLeft

@@ -1,5 +1,5 @@
 -- The moments that a network goes through.
-use Rattle.rule_engine.proofs.Prelude.{◌≡◌, ℕ, ◌+◌, ◌<◌, List, [], ◌∷◌, ◌++◌, length, take, drop, get_or, zip, Some, None, Result, Ok, Err, OnErr, IsSomeAnd, IsTrue, inl, inr, refl, sym, ap, ◌∙◌, subst, arith, slice_get-get_or, take_more, drop_more, append_assoc, Event, Reply, State, IsState, RuleTable, refusal_of, Answers, spent_after, reply_of, state_after, replies_of, Moment, Run, beginning_with, moment_after, opening_is_state, IsTable, state_after_keeps, least_answers, answers_keep, IsCharged, beginning_is_within, answer_within, IsWithinBudget, StopsForMemory, moment_after_all, takes_memory, moment, NetView, IsPrepared}
+use Rattle.rule_engine.proofs.Prelude.{◌≡◌, ℕ, ◌+◌, ◌<◌, List, [], ◌∷◌, ◌++◌, length, take, drop, get_or, zip, Some, None, Result, Ok, Err, OnErr, IsSomeAnd, IsTrue, inl, inr, refl, sym, ap, ◌∙◌, subst, arith, slice_get-get_or, take_more, drop_more, append_assoc, Event, Reply, State, IsState, RuleTable, refusal_of, Answers, spent_after, reply_of, state_after, replies_of, Moment, Run, beginning_with, moment_after, opening_is_state, IsTable, state_after_keeps, least_answers, answers_keep, IsCharged, beginning_is_within, answer_within, IsWithinBudget, StopsForMemory, moment_after_all, takes_memory, moment, NetView, IsPrepared, Option, RoundCount, next_counting, counting_after_all}
 use Rattle.machine_laws.proofs.UnusedFlags.{IsFlagless, opening_is_unflagged, runs_stay_unflagged}
 
 -- ---- what is spent
@@ -70,6 +70,33 @@ rest_more t here next end events i event within is step so_far =
     ap (λ u. moment_after_all t u (drop (i + 1) events)) step
     ∙ ap (moment_after_all t here) (sym (drop_more events i event within ∙ ap (λ e. e ∷ drop (i + 1) events) (sym is)))
     ∙ so_far
+
+counting_after_append : (t : RuleTable) (m : Moment) (xs ys : List Event) (c : Option RoundCount) → counting_after_all t m (xs ++ ys) c ≡ counting_after_all t (moment_after_all t m xs) ys (counting_after_all t m xs c)
+counting_after_append t m [] ys c = refl
+counting_after_append t m (x ∷ xs) ys c = counting_after_append t (moment_after t m x) xs ys (next_counting t (reply_of t m.state m.spent x) (state_after t m.state x) c)
+
+-- the count after one more event, by the machine's reply and state
+count_of_event : (t : RuleTable) (here next : Moment) (event : Event) (counting counted : Option RoundCount) (reply : Reply) → reply ≡ reply_of t here.state here.spent event → next ≡ moment_after t here event → counted ≡ next_counting t reply next.state counting → counted ≡ next_counting t (reply_of t here.state here.spent event) (state_after t here.state event) counting
+count_of_event t here next event counting counted reply told step is =
+    is ∙ ap (λ r. next_counting t r next.state counting) told ∙ ap (λ (u : Moment). next_counting t (reply_of t here.state here.spent event) u.state counting) step
+
+-- the count after what is left
+pub counting_more : (t : RuleTable) (here next : Moment) (events : List Event) (i : ℕ) (event : Event) (counting counted end : Option RoundCount) (reply : Reply) → i < length events → event ≡ get_or events i event → reply ≡ reply_of t here.state here.spent event → next ≡ moment_after t here event → counted ≡ next_counting t reply next.state counting
+    → counting_after_all t here (drop i events) counting ≡ end → counting_after_all t next (drop (i + 1) events) counted ≡ end
+counting_more t here next events i event counting counted end reply within is told step counts so_far =
+    ap (λ u. counting_after_all t u (drop (i + 1) events) counted) step
+    ∙ ap (counting_after_all t (moment_after t here event) (drop (i + 1) events)) (count_of_event t here next event counting counted reply told step counts)
+    ∙ ap (λ l. counting_after_all t here l counting) (sym (drop_more events i event within ∙ ap (λ e. e ∷ drop (i + 1) events) (sym is)))
+    ∙ so_far
+
+-- and the count after one more event
+pub counted_more : (t : RuleTable) (m here next : Moment) (events : List Event) (i : ℕ) (event : Event) (first counting counted : Option RoundCount) (reply : Reply) → i < length events → event ≡ get_or events i event → here ≡ moment_after_all t m (take i events) → counting ≡ counting_after_all t m (take i events) first
+    → reply ≡ reply_of t here.state here.spent event → next ≡ moment_after t here event → counted ≡ next_counting t reply next.state counting → counted ≡ counting_after_all t m (take (i + 1) events) first
+counted_more t m here next events i event first counting counted reply within is there so_far told step counts =
+    count_of_event t here next event counting counted reply told step counts
+    ∙ ap (λ u. counting_after_all t u (event ∷ []) counting) there
+    ∙ ap (counting_after_all t (moment_after_all t m (take i events)) (event ∷ [])) so_far
+    ∙ sym (ap (λ l. counting_after_all t m l first) (take_more events i event within ∙ ap (λ e. take i events ++ e ∷ []) (sym is)) ∙ counting_after_append t m (take i events) (event ∷ []) first)
 
 -- if an event found no memory, the moment after the events before it
 pub stopped_at : (t : RuleTable) (m here m' : Moment) (events : List Event) (i : ℕ) (event : Event) → i < length events → event ≡ get_or events i event → here ≡ moment_after_all t m (take i events) → m' ≡ here → (refusal_of t here.state event ≡ None) × IsTrue (takes_memory event) → StopsForMemory t m events i m'

@@ -1,5 +1,5 @@
 -- Replies that are prepared.
-use Rattle.rule_engine.proofs.Prelude.{◌≡◌, ℕ, Bool, true, false, List, [], ◌∷◌, length, Option, None, Some, Result, Ok, Err, IfOk, OnOk, OnErr, IsTrue, refl, sym, ap, subst, ◌∙◌, option_or, StateView, Item, Event, Step, Moved, Reply, Refused, Moves, Refusal, State, RuleTable, refusal_of, items_refusal, step_refusal, reply_by, reply_of, least_moves, Prepares, takes_memory, size_refusal, moves_by, IsToldOf, IsPrepared, HasRoomTo}
+use Rattle.rule_engine.proofs.Prelude.{◌≡◌, ℕ, Bool, true, false, List, [], ◌∷◌, length, Option, None, Some, Result, Ok, Err, IfOk, OnOk, OnErr, IsTrue, refl, sym, ap, subst, ◌∙◌, option_or, StateView, Item, Event, Step, Moved, Reply, Refused, Moves, Refusal, State, RuleTable, refusal_of, items_refusal, step_refusal, reply_by, reply_of, least_moves, Prepares, takes_memory, size_refusal, moves_by, IsToldOf, IsPrepared, HasRoomTo, RoundCount}
 use Rattle.rule_engine.proofs.ItemVerdicts.{step_refusal-parts}
 
 -- the moves of a choice that is not refused
@@ -53,9 +53,9 @@ asked_prepares t n n' spent event (Ok reply) same allowed may room told = record
 asked_prepares t n n' spent event (Err e) same allowed may room told = record { reply = tt; room = tt; kept = same; want = (allowed, may) }
 
 -- what is prepared of an engine is prepared of a network
-pub engine_prepared : {E : Type 0} (t : RuleTable) (n n' : StateView) (spent : ℕ) (event : Event) (result : Result Reply E) → Prepares t n spent event result n' → IfOk result (IsPrepared t (record { state = n'.state; spent = spent; room = n'.room }) event)
-engine_prepared t n n' spent event (Ok reply) done = record { reply_is = done.reply ∙ ap (λ s. reply_of t s spent event) (sym done.kept); room = done.room }
-engine_prepared t n n' spent event (Err e) done = tt
+pub engine_prepared : {E : Type 0} (t : RuleTable) (n n' : StateView) (spent : ℕ) (event : Event) (result : Result Reply E) → Prepares t n spent event result n' → (counting : Option RoundCount) → IfOk result (IsPrepared t (record { state = n'.state; spent = spent; room = n'.room; counting = counting }) event)
+engine_prepared t n n' spent event (Ok reply) done counting = record { reply_is = done.reply ∙ ap (λ s. reply_of t s spent event) (sym done.kept); room = done.room }
+engine_prepared t n n' spent event (Err e) done counting = tt
 
 -- and only an event that is not refused needs memory
 pub engine_allows : {E : Type 0} (t : RuleTable) (n n' : StateView) (spent : ℕ) (event : Event) (result : Result Reply E) → Prepares t n spent event result n' → OnErr result (refusal_of t n.state event ≡ None)

@@ -1,5 +1,5 @@
 -- After a write of one node's registers, looks at the touched nodes keep the set of enabled nodes.
-use Rattle.rule_engine.proofs.Prelude.{◌≡◌, ℕ, Bool, true, false, cond, not, ◌&&◌, ◌||◌, List, Option, None, is_some, is_none, find, refl, sym, ap, ap₂, ◌∙◌, subst, ⊎_elim, arith, beq, cases_Bool, cond-true, cond-false, or_parts, true≢false, is_in, Act, present, State, Registers, IsState, pointer, flag, pointer_of, flag_of, with_pointer, with_flag, has_suitor, is_at, RuleTable, acts, is_open, AgreesLocally, pointer-with_pointer_other, flag-with_flag_other, StateView, Pointed, Flagged, WereOn, is_enabled_at, AreOn, is_null_target, may_change_guard, IsRefreshed}
+use Rattle.rule_engine.proofs.Prelude.{◌≡◌, ℕ, Bool, true, false, cond, not, ◌&&◌, ◌||◌, List, Option, None, is_some, is_none, find, refl, sym, ap, ap₂, ◌∙◌, subst, ⊎_elim, arith, beq, cases_Bool, cond-true, cond-false, or_parts, true≢false, is_in, Act, present, State, Registers, IsState, pointer, flag, pointer_of, flag_of, with_pointer, with_flag, has_suitor, is_at, RuleTable, acts, is_open, AgreesLocally, pointer-with_pointer_other, flag-with_flag_other, StateView, Pointed, Flagged, WereOn, is_enabled_at, AreOn, is_null_target, is_suitor, may_change_guard, IsRefreshed, nat_eq, may_turn, TurnsNone}
 use Rattle.suitor_index.proofs.NodeChanges.{pointer_now, flag_now}
 use Rattle.rule_engine.proofs.LocalViews.{AreAlikeBut, with_registers, suitor_same, glance_far}
 use Rattle.rule_engine.proofs.GuardRefresh.{looked_both}
@@ -42,9 +42,16 @@ with_old now before = record now { registers = before.registers }
 same_old : (now before : State) → now.network ≡ before.network → before ≡ with_old now before
 same_old now before same = λ i. record { network = sym same i; registers = before.registers }
 
+-- a node that a look may have missed did not turn with v
+unmissed : (near may moved turned : Bool) → (turned ≡ false → (moved && may) ≡ false) → (near || (turned && may)) ≡ false → (near || (moved && may)) ≡ false
+unmissed true may moved turned none off = off
+unmissed false may moved false none off = none refl
+unmissed false may false true none off = refl
+unmissed false may true true none off = off
+
 -- of a pointer: looks at its old and its new target if they point nowhere, and at the touched nodes
-pub kept_pointed : (above : Bool) (t : RuleTable) → IsGlanced above t → (now : StateView) (v : ℕ) (was is : Option ℕ) (raised first second : Bool) (bits one two three : List Bool) (told : WereOn t bits (Pointed v was is) now) → raised ≡ flag now.state v → first ≡ t.opens was raised → second ≡ t.opens is raised → IsRefreshed t now.state (is_null_target now.state was) bits one → IsRefreshed t now.state (is_null_target now.state is) one two → IsRefreshed t now.state (may_change_guard above t.opens now.state v (not (beq first second))) two three → AreOn t now.state three
-kept_pointed above t glance now v was is raised first second bits one two three told flagged was_open opened looked_was looked_is looked =
+pub kept_pointed : (above : Bool) (t : RuleTable) → IsGlanced above t → (now : StateView) (v : ℕ) (was is : Option ℕ) (turned : Bool) (bits one two three : List Bool) (told : WereOn t bits (Pointed v was is) now) → (turned ≡ false → TurnsNone above t.opens now.state (Pointed v was is)) → IsRefreshed t now.state (is_null_target now.state was) bits one → IsRefreshed t now.state (is_null_target now.state is) one two → IsRefreshed t now.state (may_change_guard above t.opens now.state v turned) two three → AreOn t now.state three
+kept_pointed above t glance now v was is turned bits one two three told none looked_was looked_is looked =
     let change = told.1.0 in
     let u = now.state in
     let s : State = with_old u told.0.state in
@@ -52,40 +59,43 @@ kept_pointed above t glance now v was is raised first second bits one two three 
     let registers : u.registers ≡ with_pointer s.registers v is = ap (λ (q : State). q.registers) change.made in
     let written : pointer u v ≡ is = pointer_now told.0 now v was is change in
     let before = subst IsState old change.was_state in
+    let moved : Bool = not (beq (t.opens was (flag u v)) (t.opens is (flag u v))) in
     let alike : AreAlikeBut s u v = record {
       pointers = λ x apart. sym (ap (λ r. pointer_of r x) registers ∙ pointer-with_pointer_other s.registers v is x apart);
       flags = λ x apart. sym (ap (λ r. flag_of r x) registers);
     } in
-    let stays : not (beq first second) ≡ false → is_open t.opens s v ≡ is_open t.opens u v =
-    λ same. ap₂ t.opens (sym change.due.1) (sym (flagged ∙ ap (λ r. flag_of r v) registers)) ∙ sym was_open ∙ unturned first second same ∙ opened ∙ ap₂ t.opens (sym written) flagged
+    let stays : moved ≡ false → is_open t.opens s v ≡ is_open t.opens u v =
+    λ same. ap₂ t.opens (sym change.due.1) (sym (ap (λ r. flag_of r v) registers)) ∙ unturned (t.opens was (flag u v)) (t.opens is (flag u v)) same ∙ ap (λ o. t.opens o (flag u v)) (sym written)
     in
-    kept_glanced above t glance s u.registers (λ w. (is_null_target u was w || is_null_target u is w) || may_change_guard above t.opens u v (not (beq first second)) w) bits three before (subst (λ (q : State). AreOn t q bits) old told.1.1) change.is_state
+    kept_glanced above t glance s u.registers (λ w. (is_null_target u was w || is_null_target u is w) || may_change_guard above t.opens u v turned w) bits three before (subst (λ (q : State). AreOn t q bits) old told.1.1) change.is_state
     (λ w off.
-    let parts = or_parts (is_null_target u was w || is_null_target u is w) (may_change_guard above t.opens u v (not (beq first second)) w) off in
+    let parts = or_parts (is_null_target u was w || is_null_target u is w) (may_change_guard above t.opens u v turned w) off in
     let ends = or_parts (is_null_target u was w) (is_null_target u is w) parts.0 in
-    glance_far above t.opens s u.registers v before change.is_state alike w (not (beq first second)) stays
+    glance_far above t.opens s u.registers v before change.is_state alike w moved stays
     (λ null. suitor_same above t.opens s u.registers v before change.is_state alike w (ap (λ o. is_at o w) (sym change.due.1) ∙ no_target u was w ends.0 null) (ap (λ o. is_at o w) written ∙ no_target u is w ends.1 null))
-    parts.1)
-    (looked_both t u (λ w. is_null_target u was w || is_null_target u is w) (may_change_guard above t.opens u v (not (beq first second))) bits two three (looked_both t u (is_null_target u was) (is_null_target u is) bits one two looked_was looked_is) looked)
+    (unmissed (nat_eq w v || is_suitor u v w) (may_turn above t.opens u v w) moved turned (λ e. none e w) parts.1))
+    (looked_both t u (λ w. is_null_target u was w || is_null_target u is w) (may_change_guard above t.opens u v turned) bits two three (looked_both t u (is_null_target u was) (is_null_target u is) bits one two looked_was looked_is) looked)
 
 -- of a flag: looks at the touched nodes
-pub kept_flagged : (above : Bool) (t : RuleTable) → IsGlanced above t → (now : StateView) (v : ℕ) (was is : Bool) (target : Option ℕ) (first second : Bool) (bits bits' : List Bool) (told : WereOn t bits (Flagged v was is) now) → target ≡ pointer now.state v → first ≡ t.opens target was → second ≡ t.opens target is → IsRefreshed t now.state (may_change_guard above t.opens now.state v (not (beq first second))) bits bits' → AreOn t now.state bits'
-kept_flagged above t glance now v was is target first second bits bits' told pointed was_open opened looked =
+pub kept_flagged : (above : Bool) (t : RuleTable) → IsGlanced above t → (now : StateView) (v : ℕ) (was is : Bool) (turned : Bool) (bits bits' : List Bool) (told : WereOn t bits (Flagged v was is) now) → (turned ≡ false → TurnsNone above t.opens now.state (Flagged v was is)) → IsRefreshed t now.state (may_change_guard above t.opens now.state v turned) bits bits' → AreOn t now.state bits'
+kept_flagged above t glance now v was is turned bits bits' told none looked =
     let change = told.1.0 in
     let u = now.state in
     let s : State = with_old u told.0.state in
     let old : told.0.state ≡ s = same_old u told.0.state (ap (λ (q : State). q.network) change.made) in
     let registers : u.registers ≡ with_flag s.registers v is = ap (λ (q : State). q.registers) change.made in
     let before = subst IsState old change.was_state in
+    let moved : Bool = not (beq (t.opens (pointer u v) was) (t.opens (pointer u v) is)) in
     let alike : AreAlikeBut s u v = record {
       pointers = λ x apart. sym (ap (λ r. pointer_of r x) registers);
       flags = λ x apart. sym (ap (λ r. flag_of r x) registers ∙ flag-with_flag_other s.registers v is x apart);
     } in
-    let stays : not (beq first second) ≡ false → is_open t.opens s v ≡ is_open t.opens u v =
-    λ same. ap₂ t.opens (sym (pointed ∙ ap (λ r. pointer_of r v) registers)) (sym change.due.1) ∙ sym was_open ∙ unturned first second same ∙ opened ∙ ap₂ t.opens pointed (sym (flag_now told.0 now v was is change))
+    let stays : moved ≡ false → is_open t.opens s v ≡ is_open t.opens u v =
+    λ same. ap₂ t.opens (sym (ap (λ r. pointer_of r v) registers)) (sym change.due.1) ∙ unturned (t.opens (pointer u v) was) (t.opens (pointer u v) is) same ∙ ap (t.opens (pointer u v)) (sym (flag_now told.0 now v was is change))
     in
-    kept_glanced above t glance s u.registers (may_change_guard above t.opens u v (not (beq first second))) bits bits' before (subst (λ (q : State). AreOn t q bits) old told.1.1) change.is_state
+    kept_glanced above t glance s u.registers (may_change_guard above t.opens u v turned) bits bits' before (subst (λ (q : State). AreOn t q bits) old told.1.1) change.is_state
     (λ w off.
-    glance_far above t.opens s u.registers v before change.is_state alike w (not (beq first second)) stays
-    (λ null. ap (λ r. has_suitor (with_registers s r) w) (sym registers)) off)
+    glance_far above t.opens s u.registers v before change.is_state alike w moved stays
+    (λ null. ap (λ r. has_suitor (with_registers s r) w) (sym registers))
+    (unmissed (nat_eq w v || is_suitor u v w) (may_turn above t.opens u v w) moved turned (λ e. none e w) off))
     looked

@@ -1,14 +1,15 @@
 -- Results of preparing and carrying out events.
-use Rattle.std.specs.Prelude.{◌≡◌, ℕ, ◌<◌, ◌⊎◌, Bool, true, false, List, [], ◌∷◌, length, take, slice_get, IsSomeAnd, None, Result, Ok, Err, IfOk, OnErr, IsTrue}
+use Rattle.std.specs.Prelude.{◌≡◌, ℕ, ◌<◌, ◌⊎◌, Bool, true, false, List, [], ◌∷◌, length, take, slice_get, IsSomeAnd, Option, None, Result, Ok, Err, IfOk, OnErr, IsTrue}
 use Rattle.rule_machine.specs.declared.event.Event.{Event}
 use Rattle.rule_machine.specs.declared.event.Event.TheVariants.{Link, Unlink, Point, Flag, Step, Show, Enabled, Matching, Status, Join, Leave}
 use Rattle.rule_machine.specs.declared.reply.Reply.{Reply}
 use Rattle.rule_machine.specs.State.{IsState, flag}
 use Rattle.rule_machine.specs.RuleTable.{RuleTable}
 use Rattle.rule_machine.specs.Refuse.{refusal_of}
-use Rattle.rule_machine.specs.Least.{reply_of}
+use Rattle.rule_machine.specs.Least.{reply_of, state_after}
 use Rattle.rule_machine.specs.Run.{Moment, moment_after}
 use Rattle.machine_laws.specs.ChargeWords.{IsWithinBound}
+use Rattle.round_laws.specs.RoundCounts.{RoundCount, next_counting}
 use Rattle.net_state.specs.StateViews.{StateView}
 use Rattle.rule_engine.specs.PreparedEvents.{HasRoomTo}
 
@@ -50,6 +51,12 @@ pub record IsWithinBudget (t : RuleTable) (weight : ℕ) (m : Moment) : Type 0 w
 abbrev pub moment_after_all : RuleTable → Moment → List Event → Moment
 moment_after_all t m [] = m
 moment_after_all t m (event ∷ events) = moment_after_all t (moment_after t m event) events
+
+-- the count of rounds after all events in turn, if they are counted
+abbrev pub counting_after_all : RuleTable → Moment → List Event → Option RoundCount → Option RoundCount
+counting_after_all t m [] counting = counting
+counting_after_all t m (event ∷ events) counting =
+    let reply = reply_of t m.state m.spent event in counting_after_all t (moment_after t m event) events (next_counting t reply (state_after t m.state event) counting)
 
 -- The first k events were carried out, then memory ran out. The next event needed the memory: it is not
 -- refused and may take memory. If k is 0, the list of replies may have needed the memory instead.

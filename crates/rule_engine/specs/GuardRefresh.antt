@@ -1,11 +1,11 @@
 -- The set of enabled nodes after some nodes were looked at again; the guards that a write at a node may
 -- change.
-use Rattle.std.specs.Prelude.{◌≡◌, ℕ, Bool, not, ◌&&◌, ◌||◌, List, Option, is_none, length, nat_eq, if◌then◌else◌}
+use Rattle.std.specs.Prelude.{◌≡◌, ℕ, Bool, ◌&&◌, ◌||◌, List, Option, is_none, length, nat_eq, if◌then◌else◌}
 use Rattle.enabled_set.specs.Members.{is_in}
 use Rattle.rule_machine.specs.Network.{linked}
 use Rattle.rule_machine.specs.State.{State, pointer, points, is_at}
 use Rattle.rule_machine.specs.RuleTable.{RuleTable}
-use Rattle.rule_machine.specs.LocalViews.{asks_for, reaches_beside}
+use Rattle.suitor_index.specs.TurnedGuards.{may_turn}
 use Rattle.rule_engine.specs.EngineStates.{is_enabled_at}
 
 -- whether w is a neighbour of v and points at v
@@ -16,16 +16,8 @@ is_suitor s v w = linked s.network v w && points s.registers w v
 abbrev pub is_null_target : State → Option ℕ → ℕ → Bool
 is_null_target s target w = is_at target w && is_none (pointer s w)
 
--- whether w points nowhere, and sees an open node exactly if v is open
-abbrev pub turns_with : Bool → (Option ℕ → Bool → Bool) → State → ℕ → ℕ → Bool
-turns_with above opens s v w = is_none (pointer s w) && not (reaches_beside above opens s w v)
-
--- whether w is a neighbour of v that asks for v, and turns with v
-abbrev pub may_turn : Bool → (Option ℕ → Bool → Bool) → State → ℕ → ℕ → Bool
-may_turn above opens s v w = linked s.network v w && (asks_for above w v && turns_with above opens s v w)
-
--- whether a write of v's registers may change the guard of w; `turned`: the write may have opened or closed
--- v. A pointer's old and new target also count, each if it points nowhere: see is_null_target.
+-- whether a write of v's registers may change the guard of w; `turned`: a neighbour's guard may have turned
+-- with v. A pointer's old and new target also count, each if it points nowhere: see is_null_target.
 abbrev pub may_change_guard : Bool → (Option ℕ → Bool → Bool) → State → ℕ → Bool → ℕ → Bool
 may_change_guard above opens s v turned w = (nat_eq w v || is_suitor s v w) || (turned && may_turn above opens s v w)
 

@@ -5,6 +5,8 @@ pub mod ChoiceMoves
 pub mod Marks
 pub mod FaultRefusals
 pub mod EventReplies
+pub mod Rounds
+pub mod RoundsLeft
 pub mod PreparedEvents
 pub mod Costs
 pub mod DisturbanceReach

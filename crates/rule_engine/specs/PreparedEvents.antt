@@ -1,6 +1,6 @@
 -- A network as contracts see it, and prepared replies.
-use Rattle.std.specs.Prelude.{◌≡◌, ℕ, List, refl}
-use Rattle.std.specs.Coded.{Coded, code_by, coded×, coded_ℕ, coded_list}
+use Rattle.std.specs.Prelude.{◌≡◌, ℕ, List, Option, Some, refl}
+use Rattle.std.specs.Coded.{Coded, code_by, coded×, coded_ℕ, coded_list, coded_option}
 use Rattle.graph_store.specs.Graph.{HasRoomFor}
 use Rattle.rule_machine.specs.declared.event.Event.{Event}
 use Rattle.rule_machine.specs.declared.event.Event.TheVariants.{Link}
@@ -10,17 +10,27 @@ use Rattle.rule_machine.specs.State.{State, state_code}
 use Rattle.rule_machine.specs.RuleTable.{RuleTable}
 use Rattle.rule_machine.specs.Least.{reply_of}
 use Rattle.rule_machine.specs.Run.{Moment}
+use Rattle.round_laws.specs.RoundCounts.{RoundCount, first_count}
 
--- the network's state, the moves spent, and each name's room for more neighbours
+-- the network's state, the moves spent, each name's room for more neighbours, and the count of rounds, if they
+-- are counted
 pub record NetView : Type 0 where
   pub state : State
   pub spent : ℕ
   pub room : List ℕ
+  pub counting : Option RoundCount
+
+abbrev count_code : Coded RoundCount
+count_code = code_by (ℕ × List ℕ) (coded× coded_ℕ (coded_list coded_ℕ)) (λ c. (c.rounds, c.pending)) (λ p. record { rounds = p.0; pending = p.1 }) (λ _. refl)
 
 abbrev pub net_code : Coded NetView
 net_code =
-    code_by (State × (ℕ × List ℕ)) (coded× state_code (coded× coded_ℕ (coded_list coded_ℕ))) (λ n. (n.state, (n.spent, n.room)))
-    (λ p. record { state = p.0; spent = p.1.0; room = p.1.1 }) (λ _. refl)
+    code_by (State × (ℕ × (List ℕ × Option RoundCount))) (coded× state_code (coded× coded_ℕ (coded× (coded_list coded_ℕ) (coded_option count_code))))
+    (λ n. (n.state, (n.spent, (n.room, n.counting)))) (λ p. record { state = p.0; spent = p.1.0; room = p.1.1.0; counting = p.1.1.1 }) (λ _. refl)
+
+-- the network whose rounds are counted from here on
+abbrev pub with_counting : RuleTable → NetView → NetView
+with_counting t net = record net { counting = Some (first_count t net.state) }
 
 -- the state and the moves spent
 abbrev pub net_moment : NetView → Moment

@@ -25,13 +25,14 @@ impl<R: Rules> Observer for Derived<R> {
         // Copied: the prover drops facts about a moved value.
         let marked = change;
         let refreshed = change;
-        self.suitors.saw(net, change);
+        let turned = self.suitors.follow(net, change);
         self.contributions.saw(net, marked);
         // The guards read the counts, so the counts come first.
         refresh(
             &IndexedNet::new(net, &self.suitors),
             &mut self.enabled,
             refreshed,
+            turned,
         );
     }
 }

@@ -1,6 +1,6 @@
 //! Networks that begin at a base.
 
-ghost use Rattle.std.specs.Prelude.{◌≡◌, ◌≤◌, ◌+◌, ◌↔◌, IfErr, IfOk, IsTrue, OnOk, false, length, nat_le, true};
+ghost use Rattle.std.specs.Prelude.{◌≡◌, ◌≤◌, ◌+◌, ◌↔◌, IfErr, IfOk, IsTrue, None, OnOk, false, length, nat_le, true};
 ghost use Rattle.std.specs.List.{list_any};
 ghost use Rattle.machine_laws.specs.ChargeWords.{charge_bound};
 ghost use Rattle.rule_machine.specs.Base.{IsBaseMoment};
@@ -82,6 +82,7 @@ impl<R: Rules> Net<R> {
     pub fn from_base(alloc: Global, size: u32, base: &Base) -> Result<Net<R>, BaseFault>
         ensures ok { IfOk result (λ net. IsBaseMoment R.table (charge_bound R.NODE_WEIGHT) size base.now (net_moment net)) }
         ensures few { OnOk result (IsBaseOfNetwork size base.now × (length base.now.nodes ≤ 65535)) }
+        ensures uncounted { IfOk result (λ net. net.counting ≡ None) }
         ensures fault { IfErr result (λ fault. ExplainsBaseFault R.table R.NODE_WEIGHT size base.now fault) }
     {
         let state = state_of::<R>(alloc, size, base)?;
@@ -96,6 +97,7 @@ impl<R: Rules> Net<R> {
             alloc,
             engine,
             spent: base.spent,
+            rounds: None,
         })
     }
 }

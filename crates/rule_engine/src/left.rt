@@ -1,8 +1,10 @@
-//! How many moves can still come.
+//! How many moves and rounds can still come.
 
 ghost use Rattle.std.specs.Prelude.{◌≡◌, []};
 ghost use Rattle.rule_machine.specs.RuleTable.{enabled_names};
 ghost use Rattle.move_bounds.specs.MovesLeft.{smaller_bound, moves_left, BoundsMoves};
+ghost use Rattle.rule_engine.specs.PreparedEvents.{net_moment};
+ghost use Rattle.rule_engine.specs.RoundsLeft.{LeavesIfCounted, rounds_left};
 
 use crate::Net;
 use move_bounds::NodeBound;
@@ -34,5 +36,22 @@ impl<R: NodeBound> Net<R> {
         }
         let charge = self.charge();
         smaller(charge, R::most_moves(self.store().nodes()))
+    }
+    /// The most rounds that can still be completed before the next accepted disturbance, for any daemon.
+    /// `None` if rounds are not counted; 0 if the network is silent. Else the rounds that the number of nodes
+    /// allows, less those complete, or `moves_left` if that is less: n nodes complete at most n rounds under Hsu
+    /// and Huang's rules (1992), and 2n under those of Manne and others (2009), or 2n - 1 if n is odd. Costs as
+    /// much as `charge`.
+    pub fn rounds_left(&mut self) -> Option<u32>
+        ensures value { result ≡ rounds_left R.table R.most R.rounds self.old.state self.old.counting }
+        ensures left { LeavesIfCounted R.table (net_moment self.old) self.old.counting result }
+        ensures kept { self.new ≡ self.old }
+    {
+        let Some(complete) = self.rounds() else {
+            return None;
+        };
+        let moves = self.moves_left();
+        let most = R::most_rounds(self.store().nodes());
+        Some(most.saturating_sub(complete).min(moves))
     }
 }

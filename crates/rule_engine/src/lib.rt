@@ -9,6 +9,7 @@
 //! `apply` is `prepare`, which takes all the memory, then `commit`, which cannot fail. A step costs a look at
 //! each chosen node and the writes of its moves, whatever the size of the network. The crate names no rule
 //! set, keeps no log and parses no text. `Net::from_base` begins where a run ended, at a base.
+//! `Net::count_rounds` lets a network count the complete rounds; without that call it does not.
 //!
 //! ```rust
 //! let mut net = Net::<Manne>::new(alloc, 2)?;
@@ -34,6 +35,7 @@ mod look;
 mod net;
 mod reach;
 mod refresh;
+mod rounds;
 mod silence;
 mod taking;
 mod touched_nodes;

@@ -3,7 +3,8 @@
 ghost use Rattle.std.specs.Prelude.{◌≡◌, ◌+◌, ◌&&◌, IfSome, IsTrue, length, nat_eq};
 ghost use Rattle.rule_machine.specs.Network.{linked, present};
 ghost use Rattle.rule_machine.specs.RuleTable as RuleTable;
-ghost use Rattle.rule_engine.specs.GuardRefresh.{is_null_target, is_suitor, may_change_guard, may_turn, turns_with, IsRefreshed};
+ghost use Rattle.rule_engine.specs.GuardRefresh.{is_null_target, is_suitor, may_change_guard, IsRefreshed};
+ghost use Rattle.suitor_index.specs.TurnedGuards.{may_turn, turns_with};
 
 use crate::guard::rule_at;
 use enabled_set::EnabledSet;

@@ -1,9 +1,10 @@
 //! A network under a rule set.
 
-ghost use Rattle.std.specs.Prelude.{◌≡◌, ◌<◌, ◌≤◌, ◌+◌, ◌*◌, ◌↔◌, ℕ, List, [], IfOk, IfErr, IfSome, OnOk, OnErr, IsTrue, None, false, length, zip, slice_get};
+ghost use Rattle.std.specs.Prelude.{◌≡◌, ◌<◌, ◌≤◌, ◌+◌, ◌*◌, ◌↔◌, ℕ, List, [], IfOk, IfErr, IfSome, OnOk, OnErr, IsTrue, None, false, length, take, zip, slice_get};
 ghost use Rattle.enabled_set.specs.Members.{members};
 ghost use Rattle.graph_store.specs.Fault.{nodes_fault, ExplainsGraphFault};
 ghost use Rattle.machine_laws.specs.ChargeWords.{charge_bound};
+ghost use Rattle.round_laws.specs.RoundCounts.{next_counting};
 ghost use Rattle.rule_machine.specs.Base.{base_of};
 ghost use Rattle.rule_machine.specs.Network.{node_count, edge_count};
 ghost use Rattle.rule_machine.specs.State.{IsState, flag};
@@ -16,7 +17,7 @@ ghost use Rattle.rule_machine.specs.Answer.{Answers};
 ghost use Rattle.machine_laws.specs.HalfMatchings.{IsMatching};
 ghost use Rattle.rule_machine.specs.declared.event.Event.TheVariants.{Step};
 ghost use Rattle.rule_engine.specs.EngineStates.{guard_at, IsAnswered};
-ghost use Rattle.rule_engine.specs.EventReplies.{StopsForMemory, moment_after_all, takes_memory};
+ghost use Rattle.rule_engine.specs.EventReplies.{StopsForMemory, counting_after_all, moment_after_all, takes_memory};
 ghost use Rattle.rule_engine.specs.ChoiceMoves.{verdict_of, verdicts_of};
 ghost use Rattle.rule_engine.specs.Costs.{disturbance_cost, BoundsGrowth};
 ghost use Rattle.rule_engine.specs.DisturbanceReach.{would_reach, reach_of, Spares};
@@ -27,37 +28,40 @@ ghost use Rattle.rule_engine.specs.PreparedEvents.{IsPrepared, net_moment};
 use crate::charge::spent_after;
 use crate::engine::Engine;
 use crate::guard::{outcome, rule_enabled};
+use crate::rounds::{begin, follow};
 use crate::touched_nodes::cost_of;
 use enabled_set::EnabledSet;
 use graph_store::{EdgeStore, GraphFault};
 use net_state::NetState;
 use registers::Registers;
+use round_counter::RoundCounter;
 use rule_machine::{Act, Base, Choice, Event, Listing, Node, Reply, Rules, Verdict, Want};
 use std::alloc::Global;
 use std::marker::Model;
 
 /// A network under the rules `R`.
 /// Contracts see the network's state, the number of moves since the last accepted disturbance or the start,
-/// and each name's room for more neighbours.
+/// each name's room for more neighbours, and the count of rounds.
 #[derive(Drop)]
 pub struct Net<R: Rules> {
     pub(crate) alloc: Global,
     pub(crate) engine: Engine<R>,
     pub(crate) spent: u32,
+    pub(crate) rounds: Option<RoundCounter>,
 }
 
 impl<R: Rules> Model for Net<R> {
     ghost use Rattle.rule_engine.specs.EngineStates.{moment};
-    ghost use Rattle.rule_engine.specs.EventReplies.{IsWithinBudget};
     ghost use Rattle.rule_engine.specs.PreparedEvents.{NetView, net_code};
+    ghost use Rattle.rule_engine.specs.Rounds.{IsCountedMoment, counting_in};
 
     ghost Value = { NetView };
 
     ghost coded = { net_code };
 
-    ghost view = { λ n. record { state = n.engine.state; spent = n.spent; room = n.engine.room } };
+    ghost view = { λ n. record { state = n.engine.state; spent = n.spent; room = n.engine.room; counting = counting_in R.table n.engine.state n.rounds } };
 
-    ghost invariant = { λ n. IsWithinBudget R.table R.NODE_WEIGHT (moment n.engine.state n.spent) };
+    ghost invariant = { λ n. IsCountedMoment R.table R.NODE_WEIGHT (moment n.engine.state n.spent) n.rounds };
 }
 
 impl<R: Rules> Net<R> {
@@ -66,6 +70,7 @@ impl<R: Rules> Net<R> {
     /// Takes about fifty bytes a node.
     pub fn new(alloc: Global, nodes: u32) -> Result<Net<R>, GraphFault>
         ensures ok { IfOk result (λ net. net_moment net ≡ beginning nodes) }
+        ensures uncounted { IfOk result (λ net. net.counting ≡ None) }
         ensures small { OnOk result (nodes ≤ 65535) }
         ensures fault { IfErr result (λ fault. ExplainsGraphFault (nodes_fault nodes) fault) }
     {
@@ -78,6 +83,7 @@ impl<R: Rules> Net<R> {
     pub fn with_present(alloc: Global, nodes: u32, present: u32) -> Result<Net<R>, GraphFault>
         requires within { present ≤ nodes }
         ensures ok { IfOk result (λ net. net_moment net ≡ beginning_with nodes present) }
+        ensures uncounted { IfOk result (λ net. net.counting ≡ None) }
         ensures small { OnOk result (nodes ≤ 65535) }
         ensures fault { IfErr result (λ fault. ExplainsGraphFault (nodes_fault nodes) fault) }
     {
@@ -86,6 +92,7 @@ impl<R: Rules> Net<R> {
             alloc,
             engine,
             spent: 0,
+            rounds: None,
         })
     }
 
@@ -96,7 +103,8 @@ impl<R: Rules> Net<R> {
     pub fn of_state(alloc: Global, net: NetState, spent: u32) -> Result<Net<R>, Want>
         requires within { spent + R.table.charge net.state ≤ charge_bound R.NODE_WEIGHT net.state.network }
         requires unflagged { R.table.flags ≡ false → (v : ℕ) → flag net.state v ≡ false }
-        ensures { IfOk result (λ made. net_moment made ≡ record { state = net.state; spent = spent }) }
+        ensures moment { IfOk result (λ made. net_moment made ≡ record { state = net.state; spent = spent }) }
+        ensures uncounted { IfOk result (λ made. made.counting ≡ None) }
     {
         // Gives the prover `IsState`.
         let _ = net.registers();
@@ -105,6 +113,7 @@ impl<R: Rules> Net<R> {
             alloc,
             engine,
             spent,
+            rounds: None,
         })
     }
 
@@ -268,6 +277,7 @@ impl<R: Rules> Net<R> {
         ensures reply { IfOk result (λ reply. reply ≡ reply_of R.table self.old.state self.old.spent event.now) }
         ensures prepared { IfOk result (λ reply. IsPrepared R.table self.new event.now reply) }
         ensures kept { net_moment self.new ≡ net_moment self.old }
+        ensures counting { self.new.counting ≡ self.old.counting }
         ensures want { OnErr result ((refusal_of R.table self.old.state event.now ≡ None) × IsTrue (takes_memory event.now)) }
     {
         let mut reply = Reply::Accepted;
@@ -282,6 +292,7 @@ impl<R: Rules> Net<R> {
         ensures reply { OnOk result (reply.new ≡ reply_of R.table self.old.state self.old.spent event.now) }
         ensures prepared { OnOk result (IsPrepared R.table self.new event.now reply.new) }
         ensures kept { net_moment self.new ≡ net_moment self.old }
+        ensures counting { self.new.counting ≡ self.old.counting }
         ensures want { OnErr result ((refusal_of R.table self.old.state event.now ≡ None) × IsTrue (takes_memory event.now)) }
     {
         self.engine.prepare(event, self.spent, reply)
@@ -294,6 +305,7 @@ impl<R: Rules> Net<R> {
         ensures reply { IfOk result (λ reply. reply ≡ reply_of R.table self.old.state self.old.spent (Step choice.now)) }
         ensures prepared { IfOk result (λ reply. IsPrepared R.table self.new (Step choice.now) reply) }
         ensures kept { net_moment self.new ≡ net_moment self.old }
+        ensures counting { self.new.counting ≡ self.old.counting }
         ensures want { OnErr result (refusal_of R.table self.old.state (Step choice.now) ≡ None) }
     {
         self.engine.prepare_step(choice, verdicts)
@@ -307,9 +319,12 @@ impl<R: Rules> Net<R> {
         requires { IsPrepared R.table self.old event.now reply.now }
         ensures state { net_moment self.new ≡ moment_after R.table (net_moment self.old) event.now }
         ensures machine { Answers R.table self.old.state self.old.spent event.now reply.now self.new.state }
+        ensures counting { self.new.counting ≡ next_counting R.table reply.now self.new.state self.old.counting }
     {
+        begin(&mut self.rounds, &self.engine, reply);
         self.engine.commit(event, reply);
         self.spent = spent_after::<R>(self.engine.net().store(), self.spent, reply);
+        follow(&mut self.rounds, &self.engine, self.spent, reply);
     }
 
     /// Carries out an event (an edit, a fault, a step or a query), and returns the reply.
@@ -335,7 +350,9 @@ impl<R: Rules> Net<R> {
         ensures reply { IfOk result (λ reply. reply ≡ reply_of R.table self.old.state self.old.spent event.now) }
         ensures state { OnOk result (net_moment self.new ≡ moment_after R.table (net_moment self.old) event.now) }
         ensures machine { IfOk result (λ reply. Answers R.table self.old.state self.old.spent event.now reply self.new.state) }
+        ensures counting { IfOk result (λ reply. self.new.counting ≡ next_counting R.table reply self.new.state self.old.counting) }
         ensures kept { OnErr result (net_moment self.new ≡ net_moment self.old) }
+        ensures kept_counting { OnErr result (self.new.counting ≡ self.old.counting) }
         ensures want { OnErr result ((refusal_of R.table self.old.state event.now ≡ None) × IsTrue (takes_memory event.now)) }
     {
         let mut reply = Reply::Accepted;
@@ -350,7 +367,9 @@ impl<R: Rules> Net<R> {
         ensures reply { OnOk result (reply.new ≡ reply_of R.table self.old.state self.old.spent event.now) }
         ensures state { OnOk result (net_moment self.new ≡ moment_after R.table (net_moment self.old) event.now) }
         ensures machine { OnOk result (Answers R.table self.old.state self.old.spent event.now reply.new self.new.state) }
+        ensures counting { OnOk result (self.new.counting ≡ next_counting R.table reply.new self.new.state self.old.counting) }
         ensures kept { OnErr result (net_moment self.new ≡ net_moment self.old) }
+        ensures kept_counting { OnErr result (self.new.counting ≡ self.old.counting) }
         ensures want { OnErr result ((refusal_of R.table self.old.state event.now ≡ None) × IsTrue (takes_memory event.now)) }
     {
         self.prepare_into(event, reply)?;
@@ -364,8 +383,9 @@ impl<R: Rules> Net<R> {
     pub fn apply_all(&mut self, events: &[Event]) -> Result<Listing<Reply>, Want>
         ensures replies { IfOk result (λ replies. replies ≡ replies_of R.table self.old.state self.old.spent events.now) }
         ensures state { OnOk result (net_moment self.new ≡ moment_after_all R.table (net_moment self.old) events.now) }
+        ensures counting { OnOk result (self.new.counting ≡ counting_after_all R.table (net_moment self.old) events.now self.old.counting) }
         ensures run { IfOk result (λ replies. Run R.table (net_moment self.old) (zip events.now replies) (net_moment self.new)) }
-        ensures err { OnErr result ((k : ℕ) × StopsForMemory R.table (net_moment self.old) events.now k (net_moment self.new)) }
+        ensures err { OnErr result ((k : ℕ) × StopsForMemory R.table (net_moment self.old) events.now k (net_moment self.new) × (self.new.counting ≡ counting_after_all R.table (net_moment self.old) (take k events.now) self.old.counting)) }
     {
         let mut replies = Vec::with_capacity(self.alloc, events.len())?;
         for event in events {
@@ -383,7 +403,9 @@ impl<R: Rules> Net<R> {
         requires { verdicts.now ≡ verdicts_of R.table self.old.state choice.now }
         ensures reply { IfOk result (λ reply. reply ≡ reply_of R.table self.old.state self.old.spent (Step choice.now)) }
         ensures state { OnOk result (net_moment self.new ≡ moment_after R.table (net_moment self.old) (Step choice.now)) }
+        ensures counting { IfOk result (λ reply. self.new.counting ≡ next_counting R.table reply self.new.state self.old.counting) }
         ensures kept { OnErr result (net_moment self.new ≡ net_moment self.old) }
+        ensures kept_counting { OnErr result (self.new.counting ≡ self.old.counting) }
         ensures want { OnErr result (refusal_of R.table self.old.state (Step choice.now) ≡ None) }
     {
         let reply = self.prepare_step(choice, verdicts)?;
@@ -393,9 +415,12 @@ impl<R: Rules> Net<R> {
 
     fn commit_step(&mut self, choice: &Choice, reply: &Reply)
         requires { IsPrepared R.table self.old (Step choice.now) reply.now }
-        ensures { net_moment self.new ≡ moment_after R.table (net_moment self.old) (Step choice.now) }
+        ensures state { net_moment self.new ≡ moment_after R.table (net_moment self.old) (Step choice.now) }
+        ensures counting { self.new.counting ≡ next_counting R.table reply.now self.new.state self.old.counting }
     {
+        begin(&mut self.rounds, &self.engine, reply);
         self.engine.commit_step(choice, reply);
         self.spent = spent_after::<R>(self.engine.net().store(), self.spent, reply);
+        follow(&mut self.rounds, &self.engine, self.spent, reply);
     }
 }

@@ -1,11 +1,12 @@
 //! Updates the set of enabled nodes after a change of the network.
 
-ghost use Rattle.std.specs.Prelude.{◌≡◌, ◌+◌, ◌||◌, List, Bool, length, nat_eq, IfSome, IsTrue};
+ghost use Rattle.std.specs.Prelude.{◌≡◌, ◌+◌, ◌||◌, List, Bool, false, length, nat_eq, IfSome, IsTrue};
 ghost use Rattle.net_state.specs.declared.change.Change.TheVariants.{Pointed, Flagged, Joined};
 ghost use Rattle.rule_machine.specs.Network.{present};
 ghost use Rattle.rule_engine.specs.EngineStates.{AreOn};
 ghost use Rattle.rule_engine.specs.DerivedValues.{WereOn};
 ghost use Rattle.rule_engine.specs.GuardRefresh.{IsRefreshed};
+ghost use Rattle.suitor_index.specs.TurnedGuards.{TurnsNone};
 
 use crate::look::{look_after_write, look_at, look_at_target};
 use enabled_set::EnabledSet;
@@ -19,21 +20,18 @@ fn pointed<R: Rules>(
     v: Node,
     was: Option<Node>,
     is: Option<Node>,
+    turned: bool,
 )
     requires told { WereOn R.table enabled.old (Pointed v was is) state.now }
     requires here { IsTrue (present state.now.state.network v) }
     requires was { IfSome was (λ w. IsTrue (present state.now.state.network w)) }
     requires is { IfSome is (λ w. IsTrue (present state.now.state.network w)) }
     requires places { length enabled.old ≡ state.now.state.network.size + 1 }
+    requires none { turned ≡ false → TurnsNone R.COURTS_HIGHER_ONLY R.table.opens state.now.state (Pointed v was is) }
     ensures { AreOn R.table state.now.state enabled.new }
 {
-    // Copied: the prover drops facts about a moved value.
-    let left = was;
-    let courted = is;
-    let flag = state.registers().flag(v);
-    let turned = R::opens(was, flag) != R::opens(is, flag);
-    look_at_target(state, enabled, left);
-    look_at_target(state, enabled, courted);
+    look_at_target(state, enabled, was);
+    look_at_target(state, enabled, is);
     look_after_write(state, enabled, v, turned);
 }
 
@@ -43,16 +41,14 @@ fn flagged<R: Rules>(
     v: Node,
     was: bool,
     is: bool,
+    turned: bool,
 )
     requires told { WereOn R.table enabled.old (Flagged v was is) state.now }
     requires here { IsTrue (present state.now.state.network v) }
     requires places { length enabled.old ≡ state.now.state.network.size + 1 }
+    requires none { turned ≡ false → TurnsNone R.COURTS_HIGHER_ONLY R.table.opens state.now.state (Flagged v was is) }
     ensures { AreOn R.table state.now.state enabled.new }
 {
-    let pointer = state.registers().pointer(v);
-    // Copied: the prover drops facts about a moved value.
-    let same = pointer;
-    let turned = R::opens(pointer, was) != R::opens(same, is);
     look_after_write(state, enabled, v, turned);
 }
 
@@ -76,14 +72,24 @@ fn joined<R: Rules>(state: &IndexedNet<'_, R>, enabled: &mut EnabledSet, v: Node
 }
 
 /// Evaluates guards again at the nodes whose guard the change may have changed.
+///
+/// `turned` is what `Suitors::follow` returned: whether a neighbour's guard may have turned with the node.
+///
+/// Cost: if `turned` is `false`, at a write no neighbour's guard is read but of those that point at the node.
 #[inline(always)]
-pub(crate) fn refresh<R: Rules>(state: &IndexedNet<'_, R>, enabled: &mut EnabledSet, change: Change)
-    requires { WereOn R.table enabled.old change state.now }
+pub(crate) fn refresh<R: Rules>(
+    state: &IndexedNet<'_, R>,
+    enabled: &mut EnabledSet,
+    change: Change,
+    turned: bool,
+)
+    requires told { WereOn R.table enabled.old change state.now }
+    requires none { turned ≡ false → TurnsNone R.COURTS_HIGHER_ONLY R.table.opens state.now.state change }
     ensures { AreOn R.table state.now.state enabled.new }
 {
     match change {
-        Change::Pointed(v, was, is) => pointed(state, enabled, v, was, is),
-        Change::Flagged(v, was, is) => flagged(state, enabled, v, was, is),
+        Change::Pointed(v, was, is) => pointed(state, enabled, v, was, is, turned),
+        Change::Flagged(v, was, is) => flagged(state, enabled, v, was, is, turned),
         Change::Linked(a, b) => look_at_ends(state, enabled, a, b),
         Change::Unlinked(a, b) => look_at_ends(state, enabled, a, b),
         Change::Joined(v) => joined(state, enabled, v),

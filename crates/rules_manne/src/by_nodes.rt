@@ -1,11 +1,11 @@
-//! No bound on moves that depends on the number of nodes alone is known.
+//! The bound on rounds that depends on the number of nodes alone. No such bound on moves is known.
 
 use crate::Manne;
 use move_bounds::NodeBound;
 
 impl NodeBound for Manne {
-    ghost use Rattle.std.specs.Prelude.{None};
-    ghost use Rattle.rules_manne.specs.NodeBound.{unbounded_by_nodes};
+    ghost use Rattle.std.specs.Prelude.{None, ◌+◌, ◌*◌, ◌/◌};
+    ghost use Rattle.rules_manne.specs.NodeBound.{manne_rounds, unbounded_by_nodes};
 
     ghost most = { λ n. None };
 
@@ -14,4 +14,12 @@ impl NodeBound for Manne {
     }
 
     ghost bounds_moves = { unbounded_by_nodes };
+
+    ghost rounds = { λ n. n + 2 * (n / 2) };
+
+    fn most_rounds(nodes: u32) -> u32 {
+        nodes + 2 * (nodes / 2)
+    }
+
+    ghost bounds_rounds = { manne_rounds };
 }

@@ -1,5 +1,5 @@
 -- What the proofs of this crate import from the crates below and from its own definitions.
-pub use Rattle.std.proofs.Common.{◌≡◌, ◌∙◌, Result, Err, IsErrAnd, ap, ℕ, ◌≤◌, List, [], Ok, OnOk, sym, subst, arith, suc, ◌+◌, ◌-◌, ◌<◌, Option, None, Some, inl, inr, refl, true, false, Bool, MatchOption}
+pub use Rattle.std.proofs.Common.{◌≡◌, ◌∙◌, Result, Err, IsErrAnd, ap, ℕ, ◌≤◌, List, [], Ok, OnOk, sym, subst, arith, zero, suc, ◌+◌, ◌-◌, ◌<◌, Option, None, Some, inl, inr, refl, true, false, Bool, MatchOption}
 pub use Rattle.std.proofs.lemmas.Result.{err_from_is_err_and}
 pub use Rattle.machine_laws.specs.ChargeWords.{IsCharged}
 pub use Rattle.line_text.specs.Parsing.{kept_if}
@@ -15,8 +15,8 @@ pub use Rattle.script_text.specs.Script.{Progress, CommandDoes, AppendsEntry, Tu
 pub use Rattle.script_text.specs.declared.command.Command.{Command}
 pub use Rattle.script_text.specs.declared.command.Command.TheVariants.{Drive}
 pub use Rattle.script_text.specs.declared.command.Turns.{Turns}
-pub use Rattle.seeded_turns.specs.DrawnEvents.{seeded_stream, drawn_step, Draws}
+pub use Rattle.seeded_turns.specs.DrawnEvents.{seeded_stream, drawn_step, drawn_fault, Draws}
 pub use Rattle.step_log.specs.declared.fault.RecordFault.{RecordFault}
 pub use Rattle.step_log.specs.declared.fault.RecordFault.TheVariants.{LogFull, Memory}
-pub use Rattle.run_session.specs.Line.{TurnsEnd, EventEnds, TurnsBegin, CommandEnds, SaysSome, progress}
+pub use Rattle.run_session.specs.Line.{TurnTakes, TurnsTake, SomeTurnsEnd, TurnsEnd, EventEnds, TurnsBegin, CommandEnds, SaysSome, progress}
 pub use Rattle.run_session.specs.declared.run.Run.{Run}

@@ -1,5 +1,5 @@
 -- How carrying out one line, or a part of one line, ends.
-use Rattle.std.specs.Prelude.{◌≡◌, ◌≢◌, ◌≤◌, ◌⊎◌, ℕ, List, [], Result, Ok, Err}
+use Rattle.std.specs.Prelude.{◌≡◌, ◌≢◌, ◌<◌, ◌≤◌, ◌⊎◌, ℕ, zero, suc, Bool, true, false, List, [], None, Some, Result, Ok, Err}
 use Rattle.rand_core.specs.Stream.{Stream}
 use Rattle.rule_machine.specs.declared.event.Event.{Event}
 use Rattle.rule_machine.specs.declared.rule_set.RuleSet.{RuleSet}
@@ -12,7 +12,7 @@ use Rattle.script_text.specs.declared.command.Command.{Command}
 use Rattle.script_text.specs.declared.command.Command.TheVariants.{Tell, Drive, Scramble, Checkpoint}
 use Rattle.seeded_turns.specs.DrawnEvents.{Draws, seeded_stream, drawn_step, drawn_fault}
 use Rattle.script_text.specs.Command.{Says}
-use Rattle.script_text.specs.Script.{Progress, EventDoes, TurnsDo, TurnsFill, CommandDoes, CommandFills, LineDoes, IsBadLine, MeetsFullLog}
+use Rattle.script_text.specs.Script.{Progress, AppendsEntry, EventDoes, TurnsDo, TurnsFill, CommandDoes, CommandFills, LineDoes, IsBadLine, MeetsFullLog}
 use Rattle.run_session.specs.declared.run.Run.{Run}
 use Rattle.run_session.specs.declared.line_error.LineError.{LineError}
 use Rattle.run_session.specs.declared.line_error.LineError.TheVariants.{BadLine, Record}
@@ -29,6 +29,31 @@ module _ {R : Type 0} where
   -- the progress of a run
   abbrev pub progress_of : Run R → Progress
   progress_of run = progress run.rules run.recorder run.text.items
+
+-- a turn was taken: it drew an event, and its entry was made; `rest` are the words that it left
+abbrev pub TurnTakes : Draws → RuleTable → ℕ → Stream → Stream → Progress → Progress → Type 0
+TurnTakes draws t limit stream rest before after =
+    (event : Event) × (before.count < limit) × (draws t before.moment.state stream ≡ (Some event, rest)) × AppendsEntry t event before after
+
+-- this many turns were taken, each with an entry; `rest` are the words that they left
+abbrev pub TurnsTake : Draws → RuleTable → ℕ → ℕ → Stream → Stream → Progress → Progress → Type 0
+TurnsTake draws t limit zero stream rest before after = (rest ≡ stream) × (after ≡ before)
+TurnsTake draws t limit (suc n) stream rest before after =
+    (mid : Progress) × (words : Stream) × TurnsTake draws t limit n stream words before mid × TurnTakes draws t limit words rest mid after
+
+-- after n of these turns: all were taken; or the next one draws no event, meets a full log, or found no memory
+abbrev pub StopsAfter : Draws → RuleTable → ℕ → ℕ → ℕ → Stream → Stream → Progress → Result Bool RecordFault → Type 0
+StopsAfter draws t limit turns n rest left after (Ok true) = (n ≡ turns) × (left ≡ rest)
+StopsAfter draws t limit turns n rest left after (Ok false) = (n < turns) × (after.count < limit) × ((draws t after.moment.state rest).0 ≡ None)
+StopsAfter draws t limit turns n rest left after (Err LogFull) = (n < turns) × (limit ≤ after.count)
+StopsAfter draws t limit turns n rest left after (Err Memory) = n ≤ turns
+
+-- Some turns were taken, and they stopped so. If all were taken, `left` are the words for the turns after them.
+pub record SomeTurnsEnd (draws : Draws) (t : RuleTable) (limit turns : ℕ) (stream left : Stream) (before after : Progress) (result : Result Bool RecordFault) : Type 0 where
+  pub taken : ℕ
+  pub rest : Stream
+  pub takes : TurnsTake draws t limit taken stream rest before after
+  pub stops : StopsAfter draws t limit turns taken rest left after result
 
 -- some first turns were taken, each of them whole
 abbrev pub TurnsBegin : Draws → RuleTable → ℕ → ℕ → Stream → Progress → Progress → Type 0

@@ -11,7 +11,7 @@ ghost use Rattle.script_text.specs.Command.{Says};
 ghost use Rattle.script_text.specs.Script.{with_checkpoint};
 ghost use Rattle.seeded_turns.specs.DrawnEvents.{seeded_stream, drawn_step, drawn_fault};
 ghost use Rattle.run_session.specs.RunStart.{first_progress};
-ghost use Rattle.run_session.specs.Line.{progress, progress_of, EventEnds, TurnsEnd, CommandEnds, LineEnds};
+ghost use Rattle.run_session.specs.Line.{progress, progress_of, EventEnds, SomeTurnsEnd, TurnsEnd, CommandEnds, LineEnds};
 
 use crate::{LineError, read_command};
 use line_text::{put_base, put_header};
@@ -104,9 +104,18 @@ impl<R: Rules> Run<R> {
         let _ = self.recorder.net().registers();
     }
 
-    // Stops at a turn that draws no event. A full log is reported before the next turn is drawn.
-    fn take_turns<S: EventSource>(&mut self, source: &mut S, count: u32) -> Result<(), RecordFault>
-        ensures ends { TurnsEnd S.draws R.table self.old.recorder.limit count (S.stream source.old) (progress_of self.old) (progress_of self.new) result }
+    /// Takes up to `count` turns; returns `false` if a turn drew no event, so that no turn is left.
+    ///
+    /// A call with some turns and a call with the others do what one call with all of them does.
+    ///
+    /// `LogFull` if the log is full at a turn; that turn draws nothing. `Memory` if memory runs out, after
+    /// some first turns, each taken whole.
+    pub fn take_turns<S: EventSource>(
+        &mut self,
+        source: &mut S,
+        count: u32,
+    ) -> Result<bool, RecordFault>
+        ensures ends { SomeTurnsEnd S.draws R.table self.old.recorder.limit count (S.stream source.old) (S.stream source.new) (progress_of self.old) (progress_of self.new) result }
         ensures unasked { self.old.recorder.len ≡ self.old.recorder.limit → S.stream source.new ≡ S.stream source.old }
         ensures limit { self.new.recorder.limit ≡ self.old.recorder.limit }
     {
@@ -115,11 +124,11 @@ impl<R: Rules> Run<R> {
                 return Err(RecordFault::LogFull);
             }
             let Some(event) = source.next_event(self.recorder.net())? else {
-                return Ok(());
+                return Ok(false);
             };
             self.log(&event, None, &mut Reply::Accepted)?;
         }
-        Ok(())
+        Ok(true)
     }
 
     /// Takes up to `turns.count` steps of a daemon seeded with `turns.seed`; stops when no node is enabled.
@@ -133,7 +142,8 @@ impl<R: Rules> Run<R> {
     {
         self.has_state();
         let mut daemon = DaemonTurns::new(alloc, turns.seed);
-        self.take_turns(&mut daemon, turns.count)
+        self.take_turns(&mut daemon, turns.count)?;
+        Ok(())
     }
 
     /// Makes up to `turns.count` register faults drawn with `turns.seed`; none if the network has no node.
@@ -145,7 +155,8 @@ impl<R: Rules> Run<R> {
         ensures limit { self.new.recorder.limit ≡ self.old.recorder.limit }
     {
         let mut injector = FaultTurns::new(turns.seed);
-        self.take_turns(&mut injector, turns.count)
+        self.take_turns(&mut injector, turns.count)?;
+        Ok(())
     }
 
     /// Adds the lines of the base of the network's state. No log is kept, so no entries are dropped.

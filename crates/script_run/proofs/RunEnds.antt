@@ -1,20 +1,28 @@
 -- How the run of a script ends, by how far it came.
-use Rattle.script_run.proofs.Prelude.{IfSome_then, ◌≡◌, ◌∙◌, ℕ, ◌+◌, List, [], ◌∷◌, ◌++◌, length, take, Option, None, Some, true, false, Result, Ok, Err, inl, inr, refl, sym, ap, subst, append-nil, arith, true≢false, IfSome, take-append_seam, take-append-add, take-length, Appends, Appends-nil, Appends-trans, RuleTable, Progress, LineDoes, LinesDo, lines_of, AppendsBeginning, RunFault, BadLine, Write, Pool, EndsScript, EndsFrom, LinesLeadTo, LinesReach, DoesWholeLines, SplitsOutput, EndsReading, ends_unwritten}
+use Rattle.script_run.proofs.Prelude.{IfSome_then, ◌≡◌, ◌∙◌, ℕ, ◌+◌, List, [], ◌∷◌, ◌++◌, length, take, Option, None, Some, true, false, Result, Ok, Err, inl, inr, refl, sym, ap, subst, append_assoc, append-nil, arith, true≢false, IfSome, take-append-add, take-length, Appends, Appends-nil, Appends-trans, RuleTable, Progress, lines_of, AppendsBeginning, RunFault, BadLine, Write, Pool, EndsScript, EndsFrom, LinesReach, DoesWholeLines, SplitsOutput, TurnsLeadTo, EndsReading, ends_unwritten}
 use Rattle.script_run.specs.declared.fault.RunFault.TheVariants.{LogFull, Memory}
-
--- one line more
-pub LinesDo-more : (t : RuleTable) (limit : ℕ) (lines : List (List ℕ)) (line : List ℕ) (start mid after : Progress) → LinesDo t limit lines start mid → LineDoes t limit line mid after → LinesDo t limit (lines ++ line ∷ []) start after
-LinesDo-more t limit [] line start mid after p q = (after, subst (λ x. LineDoes t limit line x after) p q, refl)
-LinesDo-more t limit (l ∷ lines) line start mid after p q = (p.0, p.1, LinesDo-more t limit lines line p.0 mid after p.2 q)
-
--- the lines before some others are the first lines of all
-pub LeadsTo-before : (t : RuleTable) (limit : ℕ) (before behind lines : List (List ℕ)) (start end : Progress) → lines ≡ before ++ behind → LinesDo t limit before start end → LinesLeadTo t limit lines start end
-LeadsTo-before t limit before behind lines start end splits does =
-    (length before, subst (λ l. LinesDo t limit l start end) (sym (ap (take (length before)) splits ∙ take-append_seam before behind)) does)
+use Rattle.script_run.proofs.RestOfLine.{LeadsTo-before, begins_longer, lines_go_on}
 
 -- what was held is written at last
 Hands-all : (old known new : Option (List ℕ)) (text held : List ℕ) → SplitsOutput old known text held → Appends known new held → Appends old new text
 Hands-all old known new text held h wrote = subst (Appends old new) (sym h.splits) (Appends-trans old known new h.sent held h.wrote wrote)
+
+-- no text is written
+pub Hands-none : (known : Option (List ℕ)) (held : List ℕ) → SplitsOutput known known held held
+Hands-none known held = record { sent = []; wrote = Appends-nil known; splits = refl }
+
+-- a part of what was held is written
+pub Hands-on : (old known new : Option (List ℕ)) (text held rest : List ℕ) → SplitsOutput old known text held → SplitsOutput known new held rest → SplitsOutput old new text rest
+Hands-on old known new text held rest h more = record {
+  sent = h.sent ++ more.sent;
+  wrote = Appends-trans old known new h.sent more.sent h.wrote more.wrote;
+  splits = h.splits ∙ ap (λ l. h.sent ++ l) more.splits ∙ sym (append_assoc h.sent more.sent rest);
+}
+
+-- a text that has grown is held with what it has grown by
+pub Hands-grown : {old known : Option (List ℕ)} {text held held' : List ℕ} (more : List ℕ) → SplitsOutput old known text held → held' ≡ held ++ more → SplitsOutput old known (text ++ more) held'
+Hands-grown {held = held} more h grown =
+    record { sent = h.sent; wrote = h.wrote; splits = ap (λ l. l ++ more) h.splits ∙ append_assoc h.sent held more ∙ ap (λ l. h.sent ++ l) (sym grown) }
 
 -- or a beginning of it
 pub Hands-begun : (old known new : Option (List ℕ)) (text held : List ℕ) → SplitsOutput old known text held → AppendsBeginning known new held → AppendsBeginning old new text
@@ -36,6 +44,12 @@ WritesPart t limit lines start old new = (end : Progress) × LinesReach t limit 
 pub WritesPart-none : (t : RuleTable) (limit : ℕ) (lines : List (List ℕ)) (start : Progress) (old : Option (List ℕ)) → WritesPart t limit lines start old old
 WritesPart-none t limit lines start old = (start, inl (0, refl), (0, Appends-nil old))
 
+-- a beginning of a text that whole turns have reached was written
+WritesPart-turns : (t : RuleTable) (limit : ℕ) (lines : List (List ℕ)) (start end : Progress) (old new : Option (List ℕ)) → TurnsLeadTo t limit lines start end → AppendsBeginning old new end.text → WritesPart t limit lines start old new
+WritesPart-turns t limit lines start end old new leads begun =
+    let all = lines_go_on t limit lines start end leads in
+    (all.0, all.1, begins_longer old new end.text all.0.text all.2 begun)
+
 -- a beginning of what was held was written
 WritesPart-halted : (t : RuleTable) (limit : ℕ) (lines : List (List ℕ)) (start : Progress) (ended : Result Unit RunFault) (old known new : Option (List ℕ)) (held : List ℕ) → (ended ≡ Err Write → ⊥)
     → EndsReading t limit lines start old known held ended → AppendsBeginning known new held → WritesPart t limit lines start old new
@@ -46,13 +60,15 @@ WritesPart-halted t limit lines start (Err (BadLine number)) old known new held 
 WritesPart-halted t limit lines start (Err LogFull) old known new held other (end, full, handed) begun = (end, inr full, Hands-begun old known new end.text held handed begun)
 WritesPart-halted t limit lines start (Err Write) old known new held other wrote begun = absurd (other refl)
 WritesPart-halted t limit lines start (Err (Pool why)) old known new held other never begun = absurd never
+WritesPart-halted t limit lines start (Err Memory) old known new held other (end, leads, handed) begun =
+    WritesPart-turns t limit lines start end old new leads (Hands-begun old known new end.text held handed begun)
 WritesPart-halted t limit lines start (Err fault) old known new held other halted begun = (halted.0, inl halted.1, Hands-begun old known new halted.0.text held halted.2 begun)
 
 -- all that was held was written
 Ends-written : (t : RuleTable) (limit : ℕ) (lines : List (List ℕ)) (start : Progress) (ended : Result Unit RunFault) (old known new : Option (List ℕ)) (held : List ℕ) → (ended ≡ Err Write → ⊥)
     → EndsReading t limit lines start old known held ended → Appends known new held → EndsScript t limit lines start ended (Appends old new) (AppendsBeginning old new)
 Ends-written t limit lines start (Err Memory) old known new held other (end, leads, handed) wrote =
-    (end, inl leads, (length end.text, subst (Appends old new) (sym (take-length end.text)) (Hands-all old known new end.text held handed wrote)))
+    WritesPart-turns t limit lines start end old new leads (length end.text, subst (Appends old new) (sym (take-length end.text)) (Hands-all old known new end.text held handed wrote))
 Ends-written t limit lines start (Err Write) old known new held other part wrote = absurd (other refl)
 Ends-written t limit lines start (Err (Pool why)) old known new held other never wrote = absurd never
 Ends-written t limit lines start ended old known new held other reached wrote = (reached.0, reached.1, Hands-all old known new reached.0.text held reached.2 wrote)
@@ -71,7 +87,7 @@ module _ (t : RuleTable) (limit : ℕ) (start : Progress) (a old : Option (List 
   Ends-failed ended new held is halts =
       IfSome_then a halts (λ script halted.
       let part = subst (EndsReading t limit (lines_of script) start old new held) is halted in
-      subst (EndsFrom t limit start script old new) (sym is) (part.0, inl part.1, part.2))
+      subst (EndsFrom t limit start script old new) (sym is) (WritesPart-turns t limit (lines_of script) start part.0 old new part.1 part.2))
 
   module _ (ended : Result Unit RunFault) (other : ended ≡ Err Write → ⊥) (known new : Option (List ℕ)) (held held' : List ℕ) (same : held' ≡ held) (halts : IfSome a (λ script. EndsReading t limit (lines_of script) start old known held ended)) where
     -- what was held could not all be written

@@ -1,9 +1,9 @@
 -- How far the run of a script has come.
-use Rattle.script_run.proofs.Prelude.{take_at, ◌≡◌, ◌∙◌, ℕ, ◌+◌, ◌<◌, List, [], ◌∷◌, ◌++◌, length, take, drop, Option, None, Some, Result, Ok, Err, refl, sym, ap, subst, append_assoc, append-nil, length-append, arith, IfSome, Appends-nil, Appends-trans, Consumes-nil, Consumes-trans, Consumes-whole, Consumes-kept, All-nil, All-push, Consumes, IsAtEnd, Keeps, RuleTable, Progress, LinesDo, IsBadLine, lines_of, GoesOn, goes_on, line_joined, lines_of-ended, lines_of-last, long_says_nothing, AppendsBeginning, AppendsLess, IsLine, LogFull, Memory, LineError, Record, RunFault, fault_of, StopsAtLine, LinesLeadTo, SplitsOutput, EndsReading, LineEndsWhole, IsReadUpTo, PieceEnds, ended_text, DoesWholeLines}
-use Rattle.run_session.specs.declared.line_error.LineError.TheVariants.{BadLine}
+use Rattle.script_run.proofs.Prelude.{take_at, ◌≡◌, ◌∙◌, ℕ, ◌+◌, ◌<◌, List, [], ◌∷◌, ◌++◌, length, take, drop, Option, None, Some, Result, Ok, Err, inl, inr, refl, sym, ap, subst, append_assoc, append-nil, length-append, arith, IfSome, Appends-nil, Consumes-nil, Consumes-trans, Consumes-whole, Consumes-kept, All-nil, All-push, Consumes, IsAtEnd, Keeps, RuleTable, Progress, LinesDo, IsBadLine, lines_of, GoesOn, goes_on, line_joined, lines_of-ended, lines_of-last, long_says_nothing, AppendsBeginning, AppendsLess, IsLine, RunFault, StopsAtLine, LinesLeadTo, SplitsOutput, TurnsLeadTo, EndsReading, LineWrites, IsReadUpTo, PieceEnds, ended_text, DoesWholeLines}
 use Rattle.script_run.specs.declared.fault.RunFault.TheVariants as fault
-use Rattle.script_run.proofs.TextShift.{at_line, line_adds, meeting_adds}
-use Rattle.script_run.proofs.RunEnds.{LinesDo-more, LeadsTo-before, Hands-begun}
+use Rattle.script_run.proofs.RestOfLine.{LinesDo-more, LeadsTo-before}
+use Rattle.script_run.proofs.RunEnds.{Hands-begun, Hands-grown, Hands-none, Hands-on}
+use Rattle.script_run.proofs.TextShift.{at_line, first_turns_add, line_adds, meeting_adds}
 
 -- what holds whatever follows the bytes that were read holds of all that the reader had
 pub known_read : (a b : Option (List ℕ)) (read : List ℕ) (P : List ℕ → Type 0) → Consumes a b read → ((more : List ℕ) → P (read ++ more)) → IfSome a P
@@ -48,11 +48,6 @@ joined_line lines begun line behind rest e =
     ∙ sym (append_assoc (ended_text lines) ((begun ++ line) ++ 10 ∷ []) behind)
     ∙ ap (λ l. l ++ behind) (sym (ended_more lines (begun ++ line)))
 
--- a text that has grown is held with what it has grown by
-Hands-grown : {old known : Option (List ℕ)} {text held held' : List ℕ} (more : List ℕ) → SplitsOutput old known text held → held' ≡ held ++ more → SplitsOutput old known (text ++ more) held'
-Hands-grown {held = held} more h grown =
-    record { sent = h.sent; wrote = h.wrote; splits = ap (λ l. l ++ more) h.splits ∙ append_assoc h.sent held more ∙ ap (λ l. h.sent ++ l) (sym grown) }
-
 module _ {t : RuleTable} {limit : ℕ} {start : Progress} {old : Option (List ℕ)} where
   -- nothing was read
   pub Stands-none : IsReadUpTo t limit start old [] [] [] 0 start old
@@ -83,13 +78,13 @@ module _ {t : RuleTable} {limit : ℕ} {start : Progress} {old : Option (List �
     handed = h.handed;
   }
 
-  pub Stands-line : {k : ℕ} {read begun rest : List ℕ} {n : ℕ} {now : Progress} {known : Option (List ℕ)} {done : Unit} (line behind : List ℕ) (after : Progress) (result : Result Unit LineError)
+  pub Stands-line : {k : ℕ} {read begun rest : List ℕ} {n : ℕ} {now : Progress} {known known' : Option (List ℕ)} {done : Unit} (line behind : List ℕ) (after : Progress) (result : Result Unit RunFault)
       → IsReadUpTo t limit start old read begun rest n now known → IsLine line → rest ≡ line ++ 10 ∷ behind
-      → k ≡ limit → LineEndsWhole t k (n + 1) (begun ++ line) now after result → result ≡ Ok done
-      → IsReadUpTo t limit start old read [] behind (n + 1) after known
-  Stands-line {begun = begun} {rest = rest} {n = n} {now = now} line behind after result h ended e same ends is =
-      let line_does = rw (same, is) at ends in
-      let adds = line_adds t limit (begun ++ line) now.rules after.rules now.moment after.moment now.count after.count now.counting after.counting now.text after.text line_does in record {
+      → k ≡ limit → LineWrites t k (n + 1) (begun ++ line) now after known known' result → result ≡ Ok done
+      → IsReadUpTo t limit start old read [] behind (n + 1) after known'
+  Stands-line {begun = begun} {rest = rest} {n = n} {now = now} {known = known} {known' = known'} line behind after result h ended e same ends is =
+      let does = rw (same, is) at ends in
+      let adds = line_adds t limit (begun ++ line) now.rules after.rules now.moment after.moment now.count after.count now.counting after.counting now.text does.0 does.1 in record {
         before = h.before ++ (begun ++ line) ∷ [];
         text = h.text ++ adds.more;
         splits = λ more. h.splits more ∙ ap (λ l. h.before ++ l) (first_line begun line behind rest more h.unended ended e) ∙ sym (append_assoc h.before ((begun ++ line) ∷ []) (lines_of (behind ++ more)));
@@ -98,7 +93,7 @@ module _ {t : RuleTable} {limit : ℕ} {start : Progress} {old : Option (List �
         unended = tt;
         number = ap (λ m. m + 1) h.number ∙ sym (length-append h.before ((begun ++ line) ∷ []));
         does = LinesDo-more t limit h.before (begun ++ line) start (at_line now.rules now.moment now.count now.counting h.text) _ h.does (adds.leads h.text);
-        handed = Hands-grown adds.more h.handed adds.grown;
+        handed = Hands-on old known known' (h.text ++ adds.more) does.0 after.text (Hands-grown adds.more h.handed adds.grown) does.2;
       }
 
   -- the line that was begun was emptied, and the lines were counted
@@ -109,7 +104,7 @@ module _ {t : RuleTable} {limit : ℕ} {start : Progress} {old : Option (List �
   -- some of what was held is written
   pub Stands-handed : {read begun rest text : List ℕ} {n : ℕ} {now : Progress} {known known' : Option (List ℕ)}
       → IsReadUpTo t limit start old read begun rest n now known → SplitsOutput known known' now.text text → IsReadUpTo t limit start old read begun rest n (at_line now.rules now.moment now.count now.counting text) known'
-  Stands-handed {text = text} {known = known} {known' = known'} h more = record {
+  Stands-handed {text = text} {now = now} {known = known} {known' = known'} h more = record {
     before = h.before;
     text = h.text;
     splits = h.splits;
@@ -118,11 +113,7 @@ module _ {t : RuleTable} {limit : ℕ} {start : Progress} {old : Option (List �
     unended = h.unended;
     number = h.number;
     does = h.does;
-    handed = record {
-      sent = h.handed.sent ++ more.sent;
-      wrote = Appends-trans old known known' h.handed.sent more.sent h.handed.wrote more.wrote;
-      splits = h.handed.splits ∙ ap (λ l. h.handed.sent ++ l) more.splits ∙ sym (append_assoc h.handed.sent more.sent text);
-    };
+    handed = Hands-on old known known' h.text now.text text h.handed more;
   }
 
   -- the lines so far are the first of all
@@ -134,9 +125,9 @@ module _ {t : RuleTable} {limit : ℕ} {start : Progress} {old : Option (List �
   -- what was held could not be written
   pub Stands-began : {read begun rest : List ℕ} {n : ℕ} {now : Progress} {known : Option (List ℕ)} (known' : Option (List ℕ))
       → IsReadUpTo t limit start old read begun rest n now known → AppendsBeginning known known' now.text
-      → (more : List ℕ) → (end : Progress) × LinesLeadTo t limit (lines_of (read ++ more)) start end × AppendsBeginning old known' end.text
+      → (more : List ℕ) → (end : Progress) × TurnsLeadTo t limit (lines_of (read ++ more)) start end × AppendsBeginning old known' end.text
   Stands-began {now = now} {known = known} known' h part more =
-      (at_line now.rules now.moment now.count now.counting h.text, Stands-leads h more, Hands-begun old known known' h.text now.text h.handed part)
+      (at_line now.rules now.moment now.count now.counting h.text, inl (Stands-leads h more), Hands-begun old known known' h.text now.text h.handed part)
 
   -- the reader failed
   pub Stands-unread : {read begun rest : List ℕ} {n : ℕ} {now : Progress} {known : Option (List ℕ)} → IsReadUpTo t limit start old read begun rest n now known
@@ -147,7 +138,7 @@ module _ {t : RuleTable} {limit : ℕ} {start : Progress} {old : Option (List �
   pub Stands-memory : {read begun rest : List ℕ} {n : ℕ} {now : Progress} {known : Option (List ℕ)} {held : List ℕ} → IsReadUpTo t limit start old read begun rest n now known → held ≡ now.text
       → (more : List ℕ) → EndsReading t limit (lines_of (read ++ more)) start old known held (Err fault.Memory)
   Stands-memory {now = now} {known = known} h kept more =
-      (at_line now.rules now.moment now.count now.counting h.text, Stands-leads h more, subst (SplitsOutput old known h.text) (sym kept) h.handed)
+      (at_line now.rules now.moment now.count now.counting h.text, inl (Stands-leads h more), subst (SplitsOutput old known h.text) (sym kept) h.handed)
 
   -- the next line stops the run
   stops : {read begun rest : List ℕ} {n : ℕ} {now : Progress} {known : Option (List ℕ)} {line : List ℕ} {others : List (List ℕ)} (more : List ℕ)
@@ -161,48 +152,61 @@ module _ {t : RuleTable} {limit : ℕ} {start : Progress} {old : Option (List �
     does = h.does;
   }
 
-  stops_bad : {read begun rest : List ℕ} {n : ℕ} {now : Progress} {known : Option (List ℕ)} {line held : List ℕ} {others : List (List ℕ)} {m : ℕ} (more : List ℕ)
+  stops_bad : {read begun rest : List ℕ} {n : ℕ} {now : Progress} {known known' : Option (List ℕ)} {line held : List ℕ} {others : List (List ℕ)} {m : ℕ} (more : List ℕ)
       → IsReadUpTo t limit start old read begun rest n now known → lines_of (begun ++ (rest ++ more)) ≡ line ∷ others
-      → m ≡ n + 1 → IsBadLine line → held ≡ now.text
-      → EndsReading t limit (lines_of (read ++ more)) start old known held (Err (fault.BadLine m))
-  stops_bad {read} {n = n} {now = now} {known = known} {line = line} more h first same bad kept = (
+      → m ≡ n + 1 → IsBadLine line → SplitsOutput known known' now.text held
+      → EndsReading t limit (lines_of (read ++ more)) start old known' held (Err (fault.BadLine m))
+  stops_bad {read} {n = n} {now = now} {known = known} {known' = known'} {line = line} {held = held} more h first same bad handed = (
     at_line now.rules now.moment now.count now.counting h.text,
     (line, subst (λ k. StopsAtLine t limit (lines_of (read ++ more)) start k line (at_line now.rules now.moment now.count now.counting h.text)) (sym same) (stops more h first), bad),
-    subst (SplitsOutput old known h.text) (sym kept) h.handed,
+    Hands-on old known known' h.text now.text held h.handed handed,
   )
 
-  Stands-stops : {read begun rest : List ℕ} {n : ℕ} {now : Progress} {known : Option (List ℕ)} {line : List ℕ} {others : List (List ℕ)} (after : Progress) (stop : LineError) (more : List ℕ)
+  Stands-stops : {read begun rest : List ℕ} {n : ℕ} {now : Progress} {known : Option (List ℕ)} {line : List ℕ} {others : List (List ℕ)} (known' : Option (List ℕ)) (after : Progress) (stop : RunFault) (more : List ℕ)
       → IsReadUpTo t limit start old read begun rest n now known → lines_of (begun ++ (rest ++ more)) ≡ line ∷ others
-      → LineEndsWhole t limit (n + 1) line now after (Err stop)
-      → EndsReading t limit (lines_of (read ++ more)) start old known after.text (Err (fault_of stop))
-  Stands-stops after (BadLine m) more h first (same, bad, kept) = stops_bad more h first same bad (ap (λ (p : Progress). p.text) kept)
-  Stands-stops {n = n} {now = now} {line = line} after (Record LogFull) more h first meets =
-      let adds = meeting_adds t limit line now.rules after.rules now.moment after.moment now.count after.count now.counting after.counting now.text after.text meets in (
+      → LineWrites t limit (n + 1) line now after known known' (Err stop)
+      → EndsReading t limit (lines_of (read ++ more)) start old known' after.text (Err stop)
+  Stands-stops {known = known} known' after (fault.BadLine m) more h first (same, bad, (text, kept, handed)) =
+      stops_bad more h first same bad (subst (λ l. SplitsOutput known known' l after.text) (ap (λ (p : Progress). p.text) kept) handed)
+  Stands-stops {n = n} {now = now} {known = known} {line = line} known' after fault.LogFull more h first (text, meets, handed) =
+      let adds = meeting_adds t limit line now.rules after.rules now.moment after.moment now.count after.count now.counting after.counting now.text text meets in (
         at_line after.rules after.moment after.count after.counting (h.text ++ adds.more),
         (n + 1, line, at_line now.rules now.moment now.count now.counting h.text, stops more h first, adds.leads h.text),
-        Hands-grown adds.more h.handed adds.grown,
+        Hands-on old known known' (h.text ++ adds.more) text after.text (Hands-grown adds.more h.handed adds.grown) handed,
       )
-  Stands-stops after (Record Memory) more h first kept = Stands-memory h kept more
+  Stands-stops {n = n} {now = now} {known = known} {line = line} known' after fault.Memory more h first (end, taken, handed) =
+      let adds = first_turns_add t limit line now.rules end.rules now.moment end.moment now.count end.count now.counting end.counting now.text end.text taken in (
+        at_line end.rules end.moment end.count end.counting (h.text ++ adds.more),
+        inr (n + 1, line, at_line now.rules now.moment now.count now.counting h.text, stops more h first, adds.leads h.text),
+        Hands-on old known known' (h.text ++ adds.more) end.text after.text (Hands-grown adds.more h.handed adds.grown) handed,
+      )
+  Stands-stops {n = n} {now = now} {known = known} {line = line} known' after fault.Write more h first (end, taken, part) =
+      let adds = first_turns_add t limit line now.rules end.rules now.moment end.moment now.count end.count now.counting end.counting now.text end.text taken in (
+        at_line end.rules end.moment end.count end.counting (h.text ++ adds.more),
+        inr (n + 1, line, at_line now.rules now.moment now.count now.counting h.text, stops more h first, adds.leads h.text),
+        Hands-begun old known known' (h.text ++ adds.more) end.text (Hands-grown adds.more h.handed adds.grown) part,
+      )
+  Stands-stops known' after other more h first never = absurd never
 
   -- the line that ends next stops the run
-  pub Stands-stopped : {k : ℕ} {read begun rest : List ℕ} {n : ℕ} {now : Progress} {known : Option (List ℕ)} (line behind begun' : List ℕ) (n' : ℕ) (after : Progress) (stop : LineError) (carried : Result Unit LineError) (result : Result Unit RunFault)
+  pub Stands-stopped : {k : ℕ} {read begun rest : List ℕ} {n : ℕ} {now : Progress} {known : Option (List ℕ)} (known' : Option (List ℕ)) (line behind begun' : List ℕ) (n' : ℕ) (after : Progress) (stop : RunFault) (carried result : Result Unit RunFault)
       → IsReadUpTo t limit start old read begun rest n now known → IsLine line → rest ≡ line ++ 10 ∷ behind
-      → k ≡ limit → LineEndsWhole t k (n + 1) (begun ++ line) now after carried → carried ≡ Err stop → result ≡ Err (fault_of stop)
-      → PieceEnds t limit start old read begun' n' after known result
-  Stands-stopped {read = read} {begun = begun} {rest = rest} {n = n} {now = now} {known = known} line behind begun' n' after stop carried result h ended e same ends was is =
-      subst (PieceEnds t limit start old read begun' n' after known) (sym is)
-      (λ more. Stands-stops after stop more h (first_line begun line behind rest more h.unended ended e)
+      → k ≡ limit → LineWrites t k (n + 1) (begun ++ line) now after known known' carried → carried ≡ Err stop → result ≡ Err stop
+      → PieceEnds t limit start old read begun' n' after known' result
+  Stands-stopped {read = read} {begun = begun} {rest = rest} {n = n} {now = now} known' line behind begun' n' after stop carried result h ended e same ends was is =
+      subst (PieceEnds t limit start old read begun' n' after known') (sym is)
+      (λ more. Stands-stops known' after stop more h (first_line begun line behind rest more h.unended ended e)
       (rw (same, was) at ends))
 
   -- a line that has grown too long stops the run, whatever its end is
   pub Stands-long : {read begun rest : List ℕ} {n : ℕ} {now : Progress} {known : Option (List ℕ)}
       → IsReadUpTo t limit start old read begun rest n now known → IsLine rest → 1048576 < length begun + length rest
       → (more : List ℕ) → EndsReading t limit (lines_of (read ++ more)) start old known now.text (Err (fault.BadLine (n + 1)))
-  Stands-long {begun = begun} {rest = rest} h line long more =
+  Stands-long {begun = begun} {rest = rest} {now = now} {known = known} h line long more =
       let all = line_joined begun rest h.unended line in
       let length_all : 1048576 < length (begun ++ rest) = omega (arith, long, length-append begun rest) in
       let on = long_goes_on (begun ++ rest) more all length_all in
-      stops_bad more h (ap lines_of (sym (append_assoc begun rest more)) ∙ on.lines) refl (some_bad (begun ++ rest) on.more length_all) refl
+      stops_bad more h (ap lines_of (sym (append_assoc begun rest more)) ∙ on.lines) refl (some_bad (begun ++ rest) on.more length_all) (Hands-none known now.text)
 
   -- the script ends, and no line was begun
   pub Last-none : {read begun : List ℕ} {n : ℕ} {now : Progress} {known : Option (List ℕ)} {done : Unit} → IsReadUpTo t limit start old read begun [] n now known → begun ≡ []
@@ -212,27 +216,27 @@ module _ {t : RuleTable} {limit : ℕ} {start : Progress} {old : Option (List �
       (at_line now.rules now.moment now.count now.counting h.text, subst (λ l. LinesDo t limit l start (at_line now.rules now.moment now.count now.counting h.text)) (sym lines ∙ ap lines_of (append-nil read)) h.does, h.handed)
 
   -- it ends after a line that was carried out
-  pub Last-whole : {read begun : List ℕ} {n : ℕ} {now : Progress} {known : Option (List ℕ)} {done ended : Unit} (after : Progress) (carried : Result Unit LineError) → IsReadUpTo t limit start old read begun [] n now known → (begun ≡ [] → ⊥)
-      → LineEndsWhole t limit (n + 1) begun now after carried → carried ≡ Ok done
-      → EndsReading t limit (lines_of read) start old known after.text (Ok ended)
-  Last-whole {read = read} {begun = begun} {n = n} {now = now} after carried h some ends is =
-      let does = subst (LineEndsWhole t limit (n + 1) begun now after) is ends in
-      let adds = line_adds t limit begun now.rules after.rules now.moment after.moment now.count after.count now.counting after.counting now.text after.text does in
+  pub Last-whole : {read begun : List ℕ} {n : ℕ} {now : Progress} {known known' : Option (List ℕ)} {done ended : Unit} (after : Progress) (carried : Result Unit RunFault) → IsReadUpTo t limit start old read begun [] n now known → (begun ≡ [] → ⊥)
+      → LineWrites t limit (n + 1) begun now after known known' carried → carried ≡ Ok done
+      → EndsReading t limit (lines_of read) start old known' after.text (Ok ended)
+  Last-whole {read = read} {begun = begun} {n = n} {now = now} {known = known} {known' = known'} after carried h some ends is =
+      let does = subst (LineWrites t limit (n + 1) begun now after known known') is ends in
+      let adds = line_adds t limit begun now.rules after.rules now.moment after.moment now.count after.count now.counting after.counting now.text does.0 does.1 in
       let lines : lines_of (read ++ []) ≡ h.before ++ begun ∷ [] = h.splits [] ∙ ap (λ l. h.before ++ l) (last_line begun h.unended some) in
       let all = LinesDo-more t limit h.before begun start (at_line now.rules now.moment now.count now.counting h.text) (at_line after.rules after.moment after.count after.counting (h.text ++ adds.more)) h.does (adds.leads h.text) in (
         at_line after.rules after.moment after.count after.counting (h.text ++ adds.more),
         subst (λ l. LinesDo t limit l start (at_line after.rules after.moment after.count after.counting (h.text ++ adds.more))) (sym lines ∙ ap lines_of (append-nil read)) all,
-        Hands-grown adds.more h.handed adds.grown,
+        Hands-on old known known' (h.text ++ adds.more) does.0 after.text (Hands-grown adds.more h.handed adds.grown) does.2,
       )
 
   -- or at a line that stops it
-  pub Last-stopped : {read begun : List ℕ} {n : ℕ} {now : Progress} {known : Option (List ℕ)} (after : Progress) (stop : LineError) (carried : Result Unit LineError) (result : Result Unit RunFault)
-      → IsReadUpTo t limit start old read begun [] n now known → (begun ≡ [] → ⊥) → LineEndsWhole t limit (n + 1) begun now after carried → carried ≡ Err stop → result ≡ Err (fault_of stop)
-      → EndsReading t limit (lines_of read) start old known after.text result
-  Last-stopped {read} {begun} {n} {now} {known} after stop carried result h some ends was is =
-      subst (EndsReading t limit (lines_of read) start old known after.text) (sym is)
-      (subst (λ r. EndsReading t limit (lines_of r) start old known after.text (Err (fault_of stop))) (append-nil read)
-      (Stands-stops after stop [] h (last_line begun h.unended some) (subst (LineEndsWhole t limit (n + 1) begun now after) was ends)))
+  pub Last-stopped : {read begun : List ℕ} {n : ℕ} {now : Progress} {known : Option (List ℕ)} (known' : Option (List ℕ)) (after : Progress) (stop : RunFault) (carried result : Result Unit RunFault)
+      → IsReadUpTo t limit start old read begun [] n now known → (begun ≡ [] → ⊥) → LineWrites t limit (n + 1) begun now after known known' carried → carried ≡ Err stop → result ≡ Err stop
+      → EndsReading t limit (lines_of read) start old known' after.text result
+  Last-stopped {read} {begun} {n} {now} {known} known' after stop carried result h some ends was is =
+      subst (EndsReading t limit (lines_of read) start old known' after.text) (sym is)
+      (subst (λ r. EndsReading t limit (lines_of r) start old known' after.text (Err stop)) (append-nil read)
+      (Stands-stops known' after stop [] h (last_line begun h.unended some) (subst (LineWrites t limit (n + 1) begun now after known known') was ends)))
 
   -- the writer failed
   pub PieceEnds-failed : {read begun rest : List ℕ} {n : ℕ} {now : Progress} {known : Option (List ℕ)} (begun' : List ℕ) (n' : ℕ) (now' : Progress) (known' : Option (List ℕ)) (result : Result Unit RunFault) → result ≡ Err fault.Write
@@ -240,12 +244,10 @@ module _ {t : RuleTable} {limit : ℕ} {start : Progress} {old : Option (List �
   PieceEnds-failed {read} begun' n' now' known' result is h less =
       subst (PieceEnds t limit start old read begun' n' now' known') (sym is) (Stands-began known' h (less.0, less.2))
 
--- the fault of a line is no fault of a device
-pub never_read : (stop : LineError) (result : Result Unit RunFault) → result ≡ Err (fault_of stop) → result ≡ Err fault.Read → ⊥
-never_read stop result is same = grind arith
-
-pub never_written : (stop : LineError) (result : Result Unit RunFault) → result ≡ Err (fault_of stop) → result ≡ Err fault.Write → ⊥
-never_written stop result is same = grind arith
+-- the fault of a line is no failed read
+pub never_read : (t : RuleTable) (limit number : ℕ) (line : List ℕ) (before after : Progress) (had has : Option (List ℕ)) (stop : RunFault) (carried result : Result Unit RunFault) → LineWrites t limit number line before after had has carried → carried ≡ Err stop → result ≡ Err stop → result ≡ Err fault.Read → ⊥
+never_read t limit number line before after had has stop carried result ends was is same =
+    subst (LineWrites t limit number line before after had has) (was ∙ sym is ∙ same) ends
 
 -- a failed write is no failed read
 pub wrote_not_read : (result : Result Unit RunFault) → result ≡ Err fault.Write → result ≡ Err fault.Read → ⊥
@@ -304,14 +306,14 @@ module _ {t : RuleTable} {limit : ℕ} {start : Progress} {old : Option (List �
     Came-unread = known_read a b h.read (λ script. EndsReading t limit (lines_of script) start old known now.text (Err fault.Read)) h.used (Stands-unread h.stands)
 
     -- nothing more could be read, and the last line was carried out
-    pub Came-last : {k : ℕ} (c : Option (List ℕ)) (len : ℕ) (chunk held : List ℕ) (result : Result Unit RunFault) → Consumes b c (take len chunk) → (len ≡ 0 → IsAtEnd c) → len ≡ 0 → k ≡ limit
-        → ((start : Progress) (old known : Option (List ℕ)) (read : List ℕ) → IsReadUpTo t k start old read begun [] n now known → EndsReading t k (lines_of read) start old known held result)
-        → EndsSo t limit start old a known held result
-    Came-last c len chunk held result bytes ended empty same last =
+    pub Came-last : {k : ℕ} (known' c : Option (List ℕ)) (len : ℕ) (chunk held : List ℕ) (result : Result Unit RunFault) → Consumes b c (take len chunk) → (len ≡ 0 → IsAtEnd c) → len ≡ 0 → k ≡ limit
+        → ((start : Progress) (old : Option (List ℕ)) (read : List ℕ) → IsReadUpTo t k start old read begun [] n now known → EndsReading t k (lines_of read) start old known' held result)
+        → EndsSo t limit start old a known' held result
+    Came-last known' c len chunk held result bytes ended empty same last =
         let none : Consumes b c [] = subst (λ (m : ℕ). Consumes b c (take m chunk)) empty bytes in
         let used : Consumes a c h.read = subst (Consumes a c) (append-nil h.read) (Consumes-trans a b c h.read [] h.used none) in
-        let P : ℕ → Type 0 = λ m. IsReadUpTo t m start old h.read begun [] n now known → EndsReading t m (lines_of h.read) start old known held result in
-        Consumes-whole a c h.read (λ script. EndsReading t limit (lines_of script) start old known held result) used (ended empty) (subst P same (last start old known h.read) h.stands)
+        let P : ℕ → Type 0 = λ m. IsReadUpTo t m start old h.read begun [] n now known → EndsReading t m (lines_of h.read) start old known' held result in
+        Consumes-whole a c h.read (λ script. EndsReading t limit (lines_of script) start old known' held result) used (ended empty) (subst P same (last start old h.read) h.stands)
 
     -- a piece that was read into a chunk is carried out
     pub Came-piece : {k room : ℕ} (c : Option (List ℕ)) (chunk before buffer : List ℕ) (len : ℕ) (begun' : List ℕ) (n' : ℕ) (now' : Progress) (known' : Option (List ℕ)) (result : Result Unit RunFault)

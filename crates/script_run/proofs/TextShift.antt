@@ -1,5 +1,5 @@
 -- What a line adds to the text of a run, it adds to any text.
-use Rattle.script_run.proofs.Prelude.{◌≡◌, ◌∙◌, ℕ, zero, suc, ◌+◌, List, [], ◌∷◌, ◌++◌, Option, None, Some, Result, Ok, Err, inl, inr, refl, sym, ap, subst, append_assoc, append-nil, length, take, take-append_seam, Stream, Event, RuleSet, RuleTable, RoundCount, reply_of, Moment, base_of, entry_line, base_text, Command, Tell, Drive, Scramble, Checkpoint, Draws, seeded_stream, drawn_step, drawn_fault, RecordFault, LogFull, Memory, TurnsBegin, CommandBegins, CommandEnds, Grows, CommandGrows, Progress, AppendsEntry, IsFull, EventDoes, TurnDoes, TurnsDo, TurnFills, TurnsFill, with_checkpoint, CommandDoes, CommandFills, LineDoes, MeetsFullLog}
+use Rattle.script_run.proofs.Prelude.{◌≡◌, ◌∙◌, ℕ, zero, suc, ◌+◌, List, [], ◌∷◌, ◌++◌, Option, None, Some, inl, inr, refl, sym, ap, subst, append_assoc, append-nil, Stream, Event, RuleSet, RuleTable, RoundCount, reply_of, Moment, base_of, entry_line, base_text, Command, Tell, Drive, Scramble, Checkpoint, Draws, seeded_stream, drawn_step, drawn_fault, TurnsTake, TurnsBegin, CommandBegins, TakesFirstTurns, Progress, AppendsEntry, IsFull, EventDoes, TurnDoes, TurnsDo, TurnFills, TurnsFill, with_checkpoint, CommandDoes, CommandFills, LineDoes, MeetsFullLog}
 
 -- the progress of a run
 abbrev pub at_line : RuleSet → Moment → ℕ → Option RoundCount → List ℕ → Progress
@@ -112,25 +112,39 @@ pub meeting_adds : (t : RuleTable) (limit : ℕ) (line : List ℕ) (r r' : RuleS
 meeting_adds t limit line r r' s s' n n' k k' old new (command, says, fills) =
     let a = command_fills_add t limit command r r' s s' n n' k k' old new fills in record { more = a.more; grown = a.grown; leads = λ text. (command, says, a.leads text) }
 
--- ---- what was begun of a line at want of memory has added to the text
+-- ---- what was begun of a line
 
--- nothing was added
-same_grows : (before after : Progress) → after ≡ before → Grows before.text after.text
-same_grows before after same = ([], ap (λ (p : Progress). p.text) same ∙ sym (append-nil before.text))
+-- these turns, and no other
+pub turns_taken_add : (draws : Draws) (t : RuleTable) (limit turns : ℕ) (stream rest : Stream) (r r' : RuleSet) (s s' : Moment) (n n' : ℕ) (k k' : Option RoundCount) (old new : List ℕ)
+    → TurnsTake draws t limit turns stream rest (at_line r s n k old) (at_line r' s' n' k' new) → Adds (TurnsTake draws t limit turns stream rest) r r' s s' n n' k k' old new
+turns_taken_add draws t limit zero stream rest r r' s s' n n' k k' old new (left, same) =
+    let a = stays_adds r r' s s' n n' k k' old new same in record { more = a.more; grown = a.grown; leads = λ text. (left, a.leads text) }
+turns_taken_add draws t limit (suc turns) stream rest r r' s s' n n' k k' old new (mid, words, taken, (event, below, drawn, entry)) =
+    let a = turns_taken_add draws t limit turns stream words r mid.rules s mid.moment n mid.count k mid.counting old mid.text taken in
+    let line : List ℕ = entry_line (mid.count + 1) event (reply_of t mid.moment.state mid.moment.spent event) in record {
+      more = a.more ++ line;
+      grown = entry.text ∙ ap (λ l. l ++ line) a.grown ∙ append_assoc old a.more line;
+      leads = λ text. (
+        at_line mid.rules mid.moment mid.count mid.counting (text ++ a.more),
+        words,
+        a.leads text,
+        (event, below, drawn, record { rules = entry.rules; moment = entry.moment; count = entry.count; text = sym (append_assoc text a.more line); counting = entry.counting }),
+      );
+    }
 
-turns_begun : (draws : Draws) (t : RuleTable) (limit turns : ℕ) (stream : Stream) (before after : Progress) → TurnsBegin draws t limit turns stream before after → Grows before.text after.text
-turns_begun draws t limit turns stream before after (n, few, does) =
-    let a = turns_add draws t limit n stream before.rules after.rules before.moment after.moment before.count after.count before.counting after.counting before.text after.text does in (a.more, a.grown)
+turns_begun_add : (draws : Draws) (t : RuleTable) (limit turns : ℕ) (stream : Stream) (r r' : RuleSet) (s s' : Moment) (n n' : ℕ) (k k' : Option RoundCount) (old new : List ℕ)
+    → TurnsBegin draws t limit turns stream (at_line r s n k old) (at_line r' s' n' k' new) → Adds (TurnsBegin draws t limit turns stream) r r' s s' n n' k k' old new
+turns_begun_add draws t limit turns stream r r' s s' n n' k k' old new (taken, few, does) =
+    let a = turns_add draws t limit taken stream r r' s s' n n' k k' old new does in record { more = a.more; grown = a.grown; leads = λ text. (taken, few, a.leads text) }
 
-pub command_begun : (t : RuleTable) (limit : ℕ) (c : Command) (before after : Progress) → CommandBegins t limit c before after → Grows before.text after.text
-command_begun t limit (Drive turns) before after begun = turns_begun drawn_step t limit turns.count (seeded_stream turns.seed) before after begun
-command_begun t limit (Scramble turns) before after begun = turns_begun drawn_fault t limit turns.count (seeded_stream turns.seed) before after begun
-command_begun t limit command before after same = same_grows before after same
+command_begun_add : (t : RuleTable) (limit : ℕ) (c : Command) (r r' : RuleSet) (s s' : Moment) (n n' : ℕ) (k k' : Option RoundCount) (old new : List ℕ) → CommandBegins t limit c (at_line r s n k old) (at_line r' s' n' k' new) → Adds (CommandBegins t limit c) r r' s s' n n' k k' old new
+command_begun_add t limit (Tell event) r r' s s' n n' k k' old new same = stays_adds r r' s s' n n' k k' old new same
+command_begun_add t limit (Drive turns) r r' s s' n n' k k' old new begun = turns_begun_add drawn_step t limit turns.count (seeded_stream turns.seed) r r' s s' n n' k k' old new begun
+command_begun_add t limit (Scramble turns) r r' s s' n n' k k' old new begun = turns_begun_add drawn_fault t limit turns.count (seeded_stream turns.seed) r r' s s' n n' k k' old new begun
+command_begun_add t limit Checkpoint r r' s s' n n' k k' old new same = stays_adds r r' s s' n n' k k' old new same
 
-pub command_grows : (t : RuleTable) (limit : ℕ) (c : Command) (before after : Progress) (result : Result Unit RecordFault) → CommandEnds t limit c before after result → CommandGrows t limit c before after result
-command_grows t limit c before after (Err Memory) begun = command_begun t limit c before after begun
-command_grows t limit c before after result ends = ends
-
--- a text that has grown is cut back to what it was
-pub cut_back : (old new cut : List ℕ) (n : ℕ) → Grows old new → n ≡ length old → cut ≡ take n new → cut ≡ old
-cut_back old new cut n (more, grown) long is = rw (is, long, grown) (take-append_seam old more)
+pub first_turns_add : (t : RuleTable) (limit : ℕ) (line : List ℕ) (r r' : RuleSet) (s s' : Moment) (n n' : ℕ) (k k' : Option RoundCount) (old new : List ℕ) → TakesFirstTurns t limit line (at_line r s n k old) (at_line r' s' n' k' new) → Adds (TakesFirstTurns t limit line) r r' s s' n n' k k' old new
+first_turns_add t limit line r r' s s' n n' k k' old new (inl same) =
+    let a = stays_adds r r' s s' n n' k k' old new same in record { more = a.more; grown = a.grown; leads = λ text. inl (a.leads text) }
+first_turns_add t limit line r r' s s' n n' k k' old new (inr (command, says, begun)) =
+    let a = command_begun_add t limit command r r' s s' n n' k k' old new begun in record { more = a.more; grown = a.grown; leads = λ text. inr (command, says, a.leads text) }

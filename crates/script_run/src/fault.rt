@@ -2,6 +2,7 @@
 
 use byte_streams::OutputFault;
 use run_session::LineError;
+use std::alloc::AllocError;
 use steal_pool::PoolFault;
 use step_log::RecordFault;
 use thiserror::Error;
@@ -44,6 +45,32 @@ impl From<LineError> for RunFault {
             LineError::Record(RecordFault::LogFull) => RunFault::LogFull,
             LineError::Record(RecordFault::Memory) => RunFault::Memory,
         }
+    }
+}
+
+impl From<RecordFault> for RunFault {
+    ghost use Rattle.std.specs.Prelude.{◌≡◌};
+    ghost use Rattle.run_session.specs.declared.line_error.LineError.TheVariants.{Record};
+    ghost use Rattle.script_run.specs.LineFaults.{fault_of};
+
+    ghost from_gives = { λ error fault. fault ≡ fault_of (Record error) };
+
+    fn from(error: RecordFault) -> RunFault {
+        match error {
+            RecordFault::LogFull => RunFault::LogFull,
+            RecordFault::Memory => RunFault::Memory,
+        }
+    }
+}
+
+impl From<AllocError> for RunFault {
+    ghost use Rattle.std.specs.Prelude.{◌≡◌};
+    ghost use Rattle.script_run.specs.declared.fault.RunFault.TheVariants.{Memory};
+
+    ghost from_gives = { λ _ fault. fault ≡ Memory };
+
+    fn from(_: AllocError) -> RunFault {
+        RunFault::Memory
     }
 }
 

@@ -1,7 +1,8 @@
 //! The run of a script: bytes in, transcript out.
 //!
 //! `run` reads a script piece by piece and carries out each line as `run_session` does. Before each read,
-//! `run` writes and flushes the text of all whole lines read so far. If `run` returns `Ok`, the writer has
+//! `run` writes and flushes the text of all whole lines read so far. It also writes while a line's turns are
+//! taken, so no line's whole text is held. If `run` returns `Ok`, the writer has
 //! exactly the header, the machine's entries for the lines (each with the least free targets), and the bases
 //! of the checkpoints. The clause `outcome` says what the writer has after each error.
 //!
@@ -14,6 +15,7 @@
 #![tactic(auto)]
 
 mod fault;
+mod long_line;
 mod options;
 mod piece;
 mod read_progress;

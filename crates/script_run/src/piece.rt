@@ -14,7 +14,6 @@ use crate::runner::Run;
 use crate::writing::hand_over;
 use byte_streams::{FailStopWriter, split_line};
 use rule_machine::Rules;
-use run_session::LineError;
 use script_text::MAX_LINE;
 use std::alloc::Global;
 use std::io::Write;
@@ -23,15 +22,17 @@ use std::thread::Threads;
 
 impl<R: Rules + Sync> Run<R> {
     // Carries out the line that an earlier piece began, and that `end` completes.
-    fn carry_out_ended<T: Threads + Wait + Sync>(
+    fn carry_out_ended<T: Threads + Wait + Sync, Out: Write>(
         &mut self,
         rt: &T,
         alloc: Global,
         reading: &mut ReadProgress,
         end: &[u8],
-    ) -> Result<(), LineError>
+        writer: &mut FailStopWriter<Out>,
+    ) -> Result<(), RunFault>
         requires { reading.old.lines + 1 < 2 ^ 64 }
-        ensures ends { CarriesLine R.table self.old.line self.new.line (reading.old.lines + 1) (reading.old.begun.items ++ end.now) result }
+        ensures ends { CarriesLine R.table self.old.line self.new.line (reading.old.lines + 1) (reading.old.begun.items ++ end.now) (Out.contents writer.old.writer) (Out.contents writer.new.writer) result }
+        ensures unwritten { IsErrOf result Unwritten → writer.new.failed ≡ true }
         ensures limit { self.new.line.recorder.limit ≡ self.old.line.recorder.limit }
         ensures lines { OnOk result (reading.new.lines ≡ reading.old.lines + 1) }
         ensures begun { OnOk result (reading.new.begun.items ≡ []) }
@@ -46,7 +47,7 @@ impl<R: Rules + Sync> Run<R> {
         } else {
             end
         };
-        self.carry_out(rt, alloc, reading.lines, line)?;
+        self.carry_out(rt, alloc, reading.lines, line, writer)?;
         reading.begun.clear();
         Ok(())
     }
@@ -71,7 +72,7 @@ impl<R: Rules + Sync> Run<R> {
     {
         let mut rest = piece;
         while let Some((end, behind)) = split_line(rest) {
-            self.carry_out_ended(rt, alloc, reading, end)?;
+            self.carry_out_ended(rt, alloc, reading, end, writer)?;
             hand_over(writer, &mut self.line.text)?;
             rest = behind;
         }
@@ -87,24 +88,25 @@ impl<R: Rules + Sync> Run<R> {
     }
 
     // At the end of the script: carries out the begun line, if there is one.
-    pub fn carry_out_last<T: Threads + Wait + Sync>(
+    pub fn carry_out_last<T: Threads + Wait + Sync, Out: Write>(
         &mut self,
         rt: &T,
         alloc: Global,
         reading: &ReadProgress,
+        writer: &mut FailStopWriter<Out>,
     ) -> Result<(), RunFault>
         requires { reading.now.lines + 1 < 2 ^ 64 }
-        ensures written { IsErrOf result Unwritten → ⊥ }
+        ensures unwritten { IsErrOf result Unwritten → writer.new.failed ≡ true }
         ensures reads { IsErrOf result Unread → ⊥ }
-        ensures last { (start : Progress) (old known : Option (List ℕ)) (read : List ℕ)
-            → IsReadUpTo R.table self.old.line.recorder.limit start old read reading.now.begun.items [] reading.now.lines (progress_of self.old.line) known
-            → EndsReading R.table self.old.line.recorder.limit (lines_of read) start old known self.new.line.text.items result }
+        ensures last { (start : Progress) (old : Option (List ℕ)) (read : List ℕ)
+            → IsReadUpTo R.table self.old.line.recorder.limit start old read reading.now.begun.items [] reading.now.lines (progress_of self.old.line) (Out.contents writer.old.writer)
+            → EndsReading R.table self.old.line.recorder.limit (lines_of read) start old (Out.contents writer.new.writer) self.new.line.text.items result }
         ensures limit { self.new.line.recorder.limit ≡ self.old.line.recorder.limit }
     {
         if reading.begun.is_empty() {
             return Ok(());
         }
-        self.carry_out(rt, alloc, reading.lines + 1, &reading.begun)?;
+        self.carry_out(rt, alloc, reading.lines + 1, &reading.begun, writer)?;
         Ok(())
     }
 }

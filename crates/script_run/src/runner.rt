@@ -8,7 +8,7 @@ ghost use Rattle.byte_streams.specs.StreamEnds.{IsEnded};
 ghost use Rattle.script_run.specs.RunEnds.{EndsReading, SplitsOutput, ends_unwritten};
 ghost use Rattle.run_session.specs.RunStart.{first_progress};
 ghost use Rattle.run_session.specs.Line.{progress_of};
-ghost use Rattle.script_run.specs.Line.{CommandGrows, LineGrows, CarriesLine};
+ghost use Rattle.script_run.specs.Line.{CommandEndsAtOnce, CommandWrites, CarriesLine};
 ghost use Rattle.script_run.specs.declared.fault.RunFault.TheVariants.{Read as Unread, Write as Unwritten};
 ghost use Rattle.script_run.specs.Outcome.{EndsFrom};
 ghost use Rattle.script_run.specs.WholeLines.{DoesWholeLines};
@@ -18,8 +18,9 @@ use crate::writing::hand_over_all;
 use crate::{Options, RefusedLine, RunFault};
 use byte_streams::{CountingReader, FailStopWriter, chunk_of};
 use rule_machine::{Event, Rules, Want};
-use run_session::{LineError, Run as LineRun, read_command};
+use run_session::{Run as LineRun, read_command};
 use script_text::Command;
+use seeded_turns::{DaemonTurns, FaultTurns};
 use std::alloc::Global;
 use std::io::{Read, Write};
 use std::mem;
@@ -55,9 +56,9 @@ impl<R: Rules> Run<R> {
 }
 
 impl<R: Rules + Sync> Run<R> {
-    // Workers judge the items of a step that is worth more than one worker.
+    // Workers judge the items of a step that is worth more than one worker. Writes no text.
     #[inline(always)]
-    fn follow<T: Threads + Wait + Sync>(
+    fn follow_at_once<T: Threads + Wait + Sync>(
         &mut self,
         rt: &T,
         alloc: Global,
@@ -65,7 +66,7 @@ impl<R: Rules + Sync> Run<R> {
         line: &[u8],
     ) -> Result<(), RecordFault>
         requires { Says line.now command.now }
-        ensures ends { CommandGrows R.table self.old.line.recorder.limit command.now (progress_of self.old.line) (progress_of self.new.line) result }
+        ensures ends { CommandEndsAtOnce R.table self.old.line.recorder.limit command.now (progress_of self.old.line) (progress_of self.new.line) result }
         ensures limit { self.new.line.recorder.limit ≡ self.old.line.recorder.limit }
     {
         if let Command::Tell(Event::Step(choice)) = command {
@@ -76,59 +77,71 @@ impl<R: Rules + Sync> Run<R> {
         self.line.follow(alloc, command, line)
     }
 
-    // If memory runs out, text may have been added.
+    // Only turns are written before the line ends.
     #[inline(always)]
-    fn carry_out_line<T: Threads + Wait + Sync>(
+    fn follow<T: Threads + Wait + Sync, Out: Write>(
+        &mut self,
+        rt: &T,
+        alloc: Global,
+        command: &Command,
+        line: &[u8],
+        writer: &mut FailStopWriter<Out>,
+    ) -> Result<(), RunFault>
+        requires { Says line.now command.now }
+        ensures ends { CommandWrites R.table self.old.line.recorder.limit command.now (progress_of self.old.line) (progress_of self.new.line)
+            (Out.contents writer.old.writer) (Out.contents writer.new.writer) result }
+        ensures unwritten { IsErrOf result Unwritten → writer.new.failed ≡ true }
+        ensures limit { self.new.line.recorder.limit ≡ self.old.line.recorder.limit }
+    {
+        match command {
+            Command::Drive(turns) => {
+                let mut daemon = DaemonTurns::new(alloc, turns.seed);
+                self.take_turns(&mut daemon, turns.count, writer)
+            }
+            Command::Scramble(turns) => {
+                let mut injector = FaultTurns::new(turns.seed);
+                self.take_turns(&mut injector, turns.count, writer)
+            }
+            _ => Ok(self.follow_at_once(rt, alloc, command, line)?),
+        }
+    }
+
+    #[inline(always)]
+    fn carry_out_line<T: Threads + Wait + Sync, Out: Write>(
         &mut self,
         rt: &T,
         alloc: Global,
         number: u64,
         line: &[u8],
-    ) -> Result<(), LineError>
-        ensures ends { LineGrows R.table self.old.line.recorder.limit number line.now (progress_of self.old.line) (progress_of self.new.line) result }
+        writer: &mut FailStopWriter<Out>,
+    ) -> Result<(), RunFault>
+        ensures ends { CarriesLine R.table self.old.line self.new.line number line.now (Out.contents writer.old.writer) (Out.contents writer.new.writer) result }
+        ensures unwritten { IsErrOf result Unwritten → writer.new.failed ≡ true }
         ensures limit { self.new.line.recorder.limit ≡ self.old.line.recorder.limit }
     {
         let mut command = Command::Checkpoint;
-        if read_command(alloc, number, line, &mut command)? {
-            self.follow(rt, alloc, &command, line)?;
+        if !read_command(alloc, number, line, &mut command)? {
+            return Ok(());
         }
-        Ok(())
-    }
-
-    // If memory runs out, no text is added, not even the text of turns that were taken.
-    #[inline(always)]
-    fn carry_out_whole<T: Threads + Wait + Sync>(
-        &mut self,
-        rt: &T,
-        alloc: Global,
-        number: u64,
-        line: &[u8],
-    ) -> Result<(), LineError>
-        ensures ends { CarriesLine R.table self.old.line self.new.line number line.now result }
-        ensures limit { self.new.line.recorder.limit ≡ self.old.line.recorder.limit }
-    {
-        let len = self.line.text.len();
-        let done = self.carry_out_line(rt, alloc, number, line);
-        if let Err(LineError::Record(RecordFault::Memory)) = done {
-            self.line.text.truncate(len);
-        }
-        done
+        self.follow(rt, alloc, &command, line, writer)
     }
 
     // The same, and keeps a bad line.
     #[inline(always)]
-    pub fn carry_out<T: Threads + Wait + Sync>(
+    pub fn carry_out<T: Threads + Wait + Sync, Out: Write>(
         &mut self,
         rt: &T,
         alloc: Global,
         number: u64,
         line: &[u8],
-    ) -> Result<(), LineError>
-        ensures ends { CarriesLine R.table self.old.line self.new.line number line.now result }
+        writer: &mut FailStopWriter<Out>,
+    ) -> Result<(), RunFault>
+        ensures ends { CarriesLine R.table self.old.line self.new.line number line.now (Out.contents writer.old.writer) (Out.contents writer.new.writer) result }
+        ensures unwritten { IsErrOf result Unwritten → writer.new.failed ≡ true }
         ensures limit { self.new.line.recorder.limit ≡ self.old.line.recorder.limit }
     {
-        let done = self.carry_out_whole(rt, alloc, number, line);
-        if let Err(LineError::BadLine { .. }) = done {
+        let done = self.carry_out_line(rt, alloc, number, line, writer);
+        if let Err(RunFault::BadLine { .. }) = done {
             self.refused.keep(line);
         }
         done
@@ -162,7 +175,7 @@ impl<R: Rules + Sync> Run<R> {
                 return Err(RunFault::Read);
             };
             if len == 0 {
-                return self.carry_out_last(rt, alloc, &reading);
+                return self.carry_out_last(rt, alloc, &reading, writer);
             }
             self.carry_out_piece(rt, alloc, &mut reading, &chunk[..len], writer)?;
         }

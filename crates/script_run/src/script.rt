@@ -24,8 +24,9 @@ use std::thread::Threads;
 ///
 /// The transcript is a header and the text of each line: the entries of the line's command, or, at a
 /// checkpoint, the lines of the network's base. Before each read, the text of all whole lines is written and
-/// flushed, so the program that writes the script can wait for a reply. Returns `Ok` after the whole script
-/// was read.
+/// flushed, so the program that writes the script can wait for a reply. After each 256 turns of a line, under
+/// `manne` after each turn, the text is written if it has reached 65,536 bytes. Returns `Ok` after the whole
+/// script was read.
 ///
 /// | Error | When | Written before it |
 /// |---|---|---|
@@ -33,10 +34,11 @@ use std::thread::Threads;
 /// | `LogFull` | at a command whose entry is beyond the limit | all text before |
 /// | `Read` | only if a read failed (no retry), or after 4,294,967,295 reads | the text of all lines before |
 /// | `Write` | only if a write or a flush failed; no further text is written | a beginning of the transcript |
-/// | `Memory` | if memory runs out | a beginning of the transcript |
+/// | `Memory` | if memory runs out | a beginning of the transcript, which may end after some turns of a line |
 ///
 /// No entry is kept. Memory is taken for the network, for 65,536 bytes of the script and the begun line, and
-/// for the unwritten text: 65,536 bytes, the text of one line, and during a checkpoint its base.
+/// for the unwritten text: 65,536 bytes, the text of 256 turns (`manne`: of one) or of another line, and during
+/// a checkpoint its base.
 ///
 /// After `BadLine` the bytes of the line are in `refused`, if there is memory for them.
 ///

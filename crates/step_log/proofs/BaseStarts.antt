@@ -1,5 +1,5 @@
 -- A journal that begins at a base.
-use Rattle.step_log.proofs.Prelude.{◌≡◌, ◌≤◌, ℕ, List, [], length, map, None, Some, refl, sym, ap, subst, arith, Base, Forgotten, Moment, IsJournal, RuleTable, State, max_entries}
+use Rattle.step_log.proofs.Prelude.{◌≡◌, ◌≤◌, ℕ, List, [], length, map, None, Option, RoundCount, Some, refl, sym, ap, subst, arith, Base, Forgotten, Moment, IsJournal, RuleTable, State, max_entries}
 use Rattle.rule_machine.specs.Network.{Network}
 use Rattle.rule_machine.specs.Base.{IsBaseMoment, base_of}
 use Rattle.rule_engine.specs.EventReplies.{IsWithinBudget}
@@ -56,6 +56,6 @@ pub kept_is : (s : State) (base : Base) (limit most spent : ℕ) (entries : List
 kept_is s base limit most spent entries nodes same none min_is listed i =
     record { state = s; spent = same i; base = Some base; entries = none i; limit = min_is i; present = length (listed i) }
 
-pub recording_is : (s : State) (base : Base) (limit most spent : ℕ) (nodes : List NodeRecord) → spent ≡ base.spent → limit ≡ most → nodes ≡ base.nodes → ◌≡◌ {A = Recording} (record { state = s; spent = spent; len = base.number; limit = limit; present = length nodes; counting = None }) (recording_from s base most)
-recording_is s base limit most spent nodes same min_is listed i =
-    record { state = s; spent = same i; len = base.number; limit = min_is i; present = length (listed i); counting = None }
+pub recording_is : (s : State) (base : Base) (limit most spent : ℕ) (nodes : List NodeRecord) (counting : Option RoundCount) → spent ≡ base.spent → limit ≡ most → nodes ≡ base.nodes → counting ≡ None → ◌≡◌ {A = Recording} (record { state = s; spent = spent; len = base.number; limit = limit; present = length nodes; counting = counting }) (recording_from s base most)
+recording_is s base limit most spent nodes counting same min_is listed uncounted i =
+    record { state = s; spent = same i; len = base.number; limit = min_is i; present = length (listed i); counting = uncounted i }

@@ -6,12 +6,12 @@ use Rattle.step_log.proofs.EpochPaths.{bounded_along}
 -- ---- what is kept leads to one moment
 
 -- a run goes on from the end of its prefix
-run_goes_on : (t : RuleTable) (start : Moment) (some rest : List Entry) (middle end : Moment) → Run t start some middle → Run t start (some ++ rest) end → Run t middle rest end
+pub run_goes_on : (t : RuleTable) (start : Moment) (some rest : List Entry) (middle end : Moment) → Run t start some middle → Run t start (some ++ rest) end → Run t middle rest end
 run_goes_on t start some rest middle end here run =
     let m = run_splits t start end some rest run in subst (λ (n : Moment). Run t n rest end) (run_once t start some m.0 middle m.1 here) m.2
 
 -- whatever leads somewhere leads there from this beginning
-from_there : (t : RuleTable) (weight : ℕ) (kept : RetainedLog) (start : Moment) → Begins t weight kept start → (entries : List Entry) (m : Moment) → LeadsTo t weight kept entries m → Run t start entries m
+pub from_there : (t : RuleTable) (weight : ℕ) (kept : RetainedLog) (start : Moment) → Begins t weight kept start → (entries : List Entry) (m : Moment) → LeadsTo t weight kept entries m → Run t start entries m
 from_there t weight kept start begins entries m (other, begins', run) =
     subst (λ (n : Moment). Run t n entries m) (begins_once t (charge_bound weight) kept.state.network.size kept.present kept.base other start begins' begins) run
 

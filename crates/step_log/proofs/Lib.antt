@@ -8,4 +8,4 @@ pub mod Once
 pub mod EpochPaths
 pub mod HeadlineProof
 pub mod BaseStarts
-pub mod CountedRounds
+pub mod KeptRounds

@@ -1,5 +1,5 @@
 -- What the proofs of this crate import from the crates below and from its own definitions.
-pub use Rattle.std.proofs.Common.{◌≡◌, ℕ, suc, ◌<◌, false, List, [], ◌∷◌, get_or, nat_eq, arith, ◌≢◌, ◌+◌, ◌*◌, ◌≤◌, ◌++◌, length, map, All, append_assoc, refl, sym, ap, ap₂, ◌∙◌, subst, true, Some, cond, ◌&&◌, filter_map, Any, Option, None, is_some, is_none, nat_le, option_and_then, le-leb}
+pub use Rattle.std.proofs.Common.{◌≡◌, ℕ, suc, ◌<◌, false, List, [], ◌∷◌, get_or, nat_eq, arith, ◌≢◌, ◌+◌, ◌*◌, ◌≤◌, ◌++◌, length, map, drop, inl, inr, ◌⊎◌, All, append_assoc, refl, sym, ap, ap₂, ◌∙◌, subst, true, Some, cond, ◌&&◌, filter_map, Any, Option, None, is_some, is_none, nat_le, option_and_then, le-leb}
 pub use Rattle.std.proofs.lemmas.Bool.{ne_eqb, false≢true}
 pub use Rattle.std.proofs.lemmas.List.{append-nil, get_or-map, map-append, length-map, length-append}
 pub use Rattle.std.proofs.Common.{Bool, IsTrue}
@@ -32,8 +32,6 @@ pub use Rattle.machine_laws.proofs.Runs.{runs_end_in_states, run_add, answers_ke
 pub use Rattle.machine_laws.proofs.Sizes.{runs_keep_size}
 pub use Rattle.machine_laws.proofs.UnusedFlags.{IsFlagless}
 pub use Rattle.machine_laws.specs.StatesAfterReplies.{followed}
-pub use Rattle.round_counter.specs.Counting.{AreEnabledIn, HasCounted, IsLocal, CanCount, count_in, is_step, log_after, start_after}
-pub use Rattle.round_counter.specs.declared.counter.RoundCounter.{RoundCounter}
 pub use Rattle.round_laws.proofs.Counting.{answer_followed}
 pub use Rattle.round_laws.proofs.RoundCounts.{counted_whole}
 pub use Rattle.round_laws.specs.Rounds.{rounds_in}
@@ -67,7 +65,6 @@ pub use Rattle.step_log.specs.Headline.{Upholds, LeadsTo}
 pub use Rattle.step_log.specs.JournalViews.{IsJournal, JournalView, kept_of, undropped_log, IsNextReceipt}
 pub use Rattle.step_log.specs.Log.{empty_log_with, max_entries, Log, IsLog}
 pub use Rattle.step_log.specs.Recording.{Recording, IsRecording, entered}
-pub use Rattle.step_log.specs.Rounds.{CountsRun, CountsRounds, HasRounds, IsReady, IsCountedRecording, counting_in, recorded_moment}
 pub use Rattle.step_log.specs.RetainedLogs.{RetainedLog, Begins, moment_in, IsRetainedRun, IsBaseOfGraph, checkpointed, kept_with, last_number, next_entry, whole, log_in}
 pub use Rattle.step_log.specs.declared.epoch.Epoch.{Epoch}
 pub use Rattle.step_log.specs.declared.receipt.Receipt.{Receipt}

@@ -1,5 +1,5 @@
 -- A recording after an event.
-use Rattle.step_log.proofs.Prelude.{◌≡◌, ◌∙◌, ◌+◌, ◌<◌, Option, ap, ap₂, sym, subst, arith, Event, Reply, State, IsState, RuleTable, RoundCount, next_counting, Answers, reply_of, Moment, moment_after, IsTable, least_answers, state_after_keeps, Recording, IsRecording, entered}
+use Rattle.step_log.proofs.Prelude.{◌≡◌, ◌∙◌, ◌+◌, ◌<◌, Option, ap₂, sym, subst, arith, Event, Reply, IsState, RuleTable, RoundCount, next_counting, Answers, reply_of, Moment, moment_after, IsTable, least_answers, state_after_keeps, Recording, IsRecording, entered}
 
 -- with one more entry it is one
 pub entered_is_recording : (t : RuleTable) → IsTable t → (r : Recording) → IsRecording r → r.len < r.limit → (event : Event) (m : Moment) (counting : Option RoundCount) → m ≡ moment_after t (record { state = r.state; spent = r.spent }) event → IsRecording (record { state = m.state; spent = m.spent; len = r.len + 1; limit = r.limit; present = r.present; counting = counting })

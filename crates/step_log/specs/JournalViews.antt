@@ -1,5 +1,5 @@
 -- A journal as contracts see it, and entries that are prepared for it.
-use Rattle.std.specs.Prelude.{◌≡◌, ℕ, ◌+◌, ◌<◌, List, map, Option}
+use Rattle.std.specs.Prelude.{◌≡◌, ℕ, ◌+◌, ◌<◌, List, map, Option, Some}
 use Rattle.rule_machine.specs.declared.base.Base.{Base}
 use Rattle.rule_machine.specs.declared.base.EpochStart.{EpochStart}
 use Rattle.rule_machine.specs.declared.reply.Reply.TheVariants.{Accepted}
@@ -7,6 +7,7 @@ use Rattle.rule_machine.specs.State.{State}
 use Rattle.rule_machine.specs.RuleTable.{RuleTable}
 use Rattle.rule_machine.specs.Run.{Entry}
 use Rattle.rule_machine.specs.Base.{begun_at, dropped}
+use Rattle.round_laws.specs.RoundCounts.{RoundCount, first_count}
 use Rattle.rule_engine.specs.PreparedEvents.{NetView, IsPrepared}
 use Rattle.step_log.specs.declared.receipt.Receipt.{Receipt}
 use Rattle.step_log.specs.declared.epoch.Epoch.{Epoch}
@@ -14,7 +15,8 @@ use Rattle.step_log.specs.Log.{Log}
 use Rattle.step_log.specs.RetainedLogs.{RetainedLog, IsRetainedRun, last_number, moment_in, next_receipt}
 use Rattle.step_log.specs.Epochs.{IsEpochPath, of_run}
 
--- what the journal keeps, each name's room for more neighbours, and the room for more entries and epochs
+-- what the journal keeps, each name's room for more neighbours, the room for more entries and epochs, the count
+-- of rounds, if they are counted, and after which entry counting began, if not before the base
 pub record JournalView : Type 0 where
   pub state : State
   pub spent : ℕ
@@ -25,6 +27,8 @@ pub record JournalView : Type 0 where
   pub room : List ℕ
   pub spare : ℕ
   pub spare_epochs : ℕ
+  pub counting : Option RoundCount
+  pub counted_from : Option ℕ
 
 -- what the journal keeps, without the rooms
 abbrev pub kept_of : JournalView → RetainedLog
@@ -37,7 +41,11 @@ undropped_log held = record { state = held.state; spent = held.spent; entries = 
 
 -- the journal's network
 abbrev pub net_of : JournalView → NetView
-net_of held = record { state = held.state; spent = held.spent; room = held.room }
+net_of held = record { state = held.state; spent = held.spent; room = held.room; counting = held.counting }
+
+-- the journal whose rounds are counted from here on
+abbrev pub counting_journal : RuleTable → JournalView → JournalView
+counting_journal t held = record held { counting = Some (first_count t held.state); counted_from = Some (last_number (kept_of held)) }
 
 -- what is kept with this network, base, list of entries after the base, limit, and number of nodes at the
 -- start

@@ -1,8 +1,8 @@
 pub mod Recording
-pub mod Rounds
 pub mod Log
 pub mod RetainedLogs
 pub mod Epochs
 pub mod JournalViews
 pub mod Headline
+pub mod JournalRounds
 pub mod BaseStarts

@@ -20,6 +20,10 @@ pub record Recording : Type 0 where
   pub present : ℕ
   pub counting : Option RoundCount
 
+-- the moment of a recording
+abbrev pub recorded_moment : Recording → Moment
+recorded_moment r = record { state = r.state; spent = r.spent }
+
 -- the state is valid, and the entries are within the limit
 pub record IsRecording (r : Recording) : Type 0 where
   pub is_state : IsState r.state
@@ -35,11 +39,11 @@ opening_recording_with size present limit =
 abbrev pub opening_recording : ℕ → ℕ → Recording
 opening_recording nodes limit = opening_recording_with nodes nodes limit
 
--- the recording that goes on at a moment after this many entries, which the limit includes; rounds are not
--- counted
-abbrev pub resumed_recording : Moment → ℕ → ℕ → Recording
-resumed_recording m number limit =
-    record { state = m.state; spent = m.spent; len = number; limit = max number (min limit max_entries); present = node_count m.state.network; counting = None }
+-- the recording that goes on at a moment, with this count of rounds, after this many entries, which the limit
+-- includes
+abbrev pub resumed_recording : Moment → Option RoundCount → ℕ → ℕ → Recording
+resumed_recording m counting number limit =
+    record { state = m.state; spent = m.spent; len = number; limit = max number (min limit max_entries); present = node_count m.state.network; counting = counting }
 
 -- the recording after the event's entry, which is counted if rounds are
 abbrev pub entered : RuleTable → Recording → Event → Recording

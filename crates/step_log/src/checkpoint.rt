@@ -25,6 +25,8 @@ impl<R: Rules> Journal<R> {
         ensures number { IfOk result (λ number. number ≡ last_number (kept_of self.old)) }
         ensures log { OnOk result (kept_of self.new ≡ checkpointed (kept_of self.old)) }
         ensures room { OnOk result ((self.new.spare ≡ 0) × (self.new.spare_epochs ≡ 0)) }
+        ensures counting { self.new.counting ≡ self.old.counting }
+        ensures from { self.new.counted_from ≡ self.old.counted_from }
         ensures kept { OnErr result (self.new ≡ self.old) }
     {
         let number = self.len();

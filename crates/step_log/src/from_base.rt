@@ -1,6 +1,6 @@
 //! Recorders and journals that begin at a base.
 
-ghost use Rattle.std.specs.Prelude.{◌≡◌, ◌<◌, ◌≤◌, ◌↔◌, ℕ, false, min, IfErr, IfOk, IsErrOf, OnOk};
+ghost use Rattle.std.specs.Prelude.{◌≡◌, ◌<◌, ◌≤◌, ◌↔◌, ℕ, false, min, IfErr, IfOk, IsErrOf, None, OnOk};
 ghost use Rattle.rule_engine.specs.PreparedEvents.{net_moment};
 ghost use Rattle.rule_machine.specs.State.{flag};
 ghost use Rattle.step_log.specs.BaseStarts.{BeginsIn, ExplainsStartFault, kept_from, recording_from, resumed_log};
@@ -43,7 +43,6 @@ impl<R: Rules> Recorder<R> {
             len: base.number,
             limit,
             present: base.nodes.as_slice().len() as u32,
-            rounds: None,
         })
     }
 }
@@ -61,6 +60,7 @@ impl<R: Rules> Journal<R> {
     ) -> Result<Journal<R>, StartFault>
         ensures kept { IfOk result (λ journal. kept_of journal ≡ kept_from journal.state base (min limit max_entries)) }
         ensures begins { IfOk result (λ journal. BeginsIn R.table R.NODE_WEIGHT size base journal.state) }
+        ensures uncounted { IfOk result (λ journal. journal.counting ≡ None) }
         ensures room { OnOk result (base.number ≤ min limit max_entries) }
         ensures full { IsErrOf result LogFull ↔ (min limit max_entries < base.number) }
         ensures fault { IfErr result (λ fault. ExplainsStartFault R.table R.NODE_WEIGHT size (min limit max_entries) base fault) }
@@ -79,15 +79,17 @@ impl<R: Rules> Journal<R> {
             limit,
             present,
             epochs: Epochs::new(alloc, EpochStart::Forgotten),
+            counted_from: None,
         })
     }
 
     /// The journal of a network that goes on after `number` entries: the base is the network's moment.
-    /// The limit is that of `Recorder::of_net`.
+    /// The limit is that of `Recorder::of_net`. It counts rounds if the network does.
     /// `AllocError` if memory runs out. Costs what a checkpoint costs.
     pub fn of_net(alloc: Global, net: Net<R>, number: u32, limit: u32) -> Result<Journal<R>, Want>
         requires few { number ≤ max_entries }
-        ensures { IfOk result (λ journal. kept_of journal ≡ resumed_log (net_moment net) number limit) }
+        ensures kept { IfOk result (λ journal. kept_of journal ≡ resumed_log (net_moment net) number limit) }
+        ensures counting { IfOk result (λ journal. journal.counting ≡ net.counting) }
     {
         let base = net.base(number)?;
         let present = net.store().nodes();
@@ -100,6 +102,7 @@ impl<R: Rules> Journal<R> {
             limit: number.max(limit.min(MAX_ENTRIES)),
             present,
             epochs: Epochs::new(alloc, EpochStart::Forgotten),
+            counted_from: None,
         })
     }
 }

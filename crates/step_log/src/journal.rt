@@ -6,14 +6,16 @@ ghost use Rattle.rule_machine.specs.declared.event.Event.TheVariants.{Step};
 ghost use Rattle.rule_engine.specs.ChoiceMoves.{verdicts_of};
 ghost use Rattle.step_log.specs.declared.fault.RecordFault.TheVariants.{LogFull};
 ghost use Rattle.step_log.specs.declared.fault.NoEntry.TheVariants.{Forgotten, Beyond};
+ghost use Rattle.round_laws.specs.RoundCounts.{next_counting};
 ghost use Rattle.step_log.specs.Epochs.{AreEpochs, IsEpochWithinBound};
 ghost use Rattle.rule_machine.specs.Base.{dropped};
 ghost use Rattle.rule_machine.specs.Network.{node_count, edge_count};
 ghost use Rattle.rule_machine.specs.Stable.{IsStable};
 ghost use Rattle.step_log.specs.Log.{max_entries, IsLog, empty_log, empty_log_with};
 ghost use Rattle.step_log.specs.RetainedLogs.{IsRetainedRun, last_number, whole, kept_with, next_receipt};
-ghost use Rattle.step_log.specs.JournalViews.{IsNextReceipt, kept_of, undropped_log};
+ghost use Rattle.step_log.specs.JournalViews.{IsNextReceipt, counting_journal, kept_of, undropped_log};
 ghost use Rattle.step_log.specs.Headline.{Upholds};
+ghost use Rattle.step_log.specs.JournalRounds.{CountsKept};
 
 use crate::epoch::Epochs;
 use crate::{Epoch, MAX_ENTRIES, NoEntry, Prepared, Receipt, RecordFault};
@@ -40,13 +42,15 @@ pub struct Journal<R: Rules> {
     pub(crate) limit: u32,
     pub(crate) present: u32,
     pub(crate) epochs: Epochs,
+    pub(crate) counted_from: Option<u32>,
 }
 
 impl<R: Rules> Model for Journal<R> {
     ghost use Rattle.std.specs.Prelude.{◌-◌, length, vec_capacity};
     ghost use Rattle.std.specs.Coded.{codes};
     ghost use Rattle.rule_machine.specs.State.{state_code};
-    ghost use Rattle.step_log.specs.JournalViews.{JournalView, IsJournal, kept_at};
+    ghost use Rattle.step_log.specs.JournalRounds.{IsCountedJournal};
+    ghost use Rattle.step_log.specs.JournalViews.{JournalView, kept_at};
 
     ghost Value = { JournalView };
 
@@ -62,9 +66,11 @@ impl<R: Rules> Model for Journal<R> {
       room = j.net.room;
       spare = vec_capacity j.entries - length j.entries.items;
       spare_epochs = vec_capacity j.epochs.over - length j.epochs.over.items;
+      counting = j.net.counting;
+      counted_from = j.counted_from;
     } };
 
-    ghost invariant = { λ j. IsJournal R.table R.NODE_WEIGHT (kept_at j.net j.base j.entries.items j.limit j.present) j.epochs.over.items j.epochs.begun };
+    ghost invariant = { λ j. IsCountedJournal R.table R.NODE_WEIGHT (kept_at j.net j.base j.entries.items j.limit j.present) j.epochs.over.items j.epochs.begun j.counted_from j.net.counting };
 }
 
 impl<R: Rules> Journal<R> {
@@ -72,6 +78,7 @@ impl<R: Rules> Journal<R> {
     /// `TooManyNodes` above 65,535 nodes; `Memory` if memory runs out.
     pub fn new(alloc: Global, nodes: u32) -> Result<Journal<R>, GraphFault>
         ensures ok { IfOk result (λ journal. kept_of journal ≡ whole (empty_log nodes max_entries)) }
+        ensures uncounted { IfOk result (λ journal. journal.counting ≡ None) }
         ensures small { OnOk result (nodes ≤ 65535) }
         ensures fault { IfErr result (λ fault. ExplainsGraphFault (nodes_fault nodes) fault) }
     {
@@ -81,6 +88,7 @@ impl<R: Rules> Journal<R> {
     /// Like `new`, with a limit of `limit` entries; a limit above 16,777,216 counts as 16,777,216.
     pub fn with_limit(alloc: Global, nodes: u32, limit: u32) -> Result<Journal<R>, GraphFault>
         ensures ok { IfOk result (λ journal. kept_of journal ≡ whole (empty_log nodes (min limit max_entries))) }
+        ensures uncounted { IfOk result (λ journal. journal.counting ≡ None) }
         ensures small { OnOk result (nodes ≤ 65535) }
         ensures fault { IfErr result (λ fault. ExplainsGraphFault (nodes_fault nodes) fault) }
     {
@@ -97,6 +105,7 @@ impl<R: Rules> Journal<R> {
     ) -> Result<Journal<R>, GraphFault>
         requires within { present ≤ nodes }
         ensures ok { IfOk result (λ journal. kept_of journal ≡ whole (empty_log_with nodes present (min limit max_entries))) }
+        ensures uncounted { IfOk result (λ journal. journal.counting ≡ None) }
         ensures small { OnOk result (nodes ≤ 65535) }
         ensures fault { IfErr result (λ fault. ExplainsGraphFault (nodes_fault nodes) fault) }
     {
@@ -108,6 +117,7 @@ impl<R: Rules> Journal<R> {
             limit: limit.min(MAX_ENTRIES),
             present,
             epochs: Epochs::new(alloc, EpochStart::At(0)),
+            counted_from: None,
         })
     }
 
@@ -140,16 +150,32 @@ impl<R: Rules> Journal<R> {
     }
 
     /// The network after all entries, for looks at it: `Net::spent`, `cost_of`, `silent_cost_of`, `is_at_rest`,
-    /// `reach_of`.
+    /// `reach_of`, `rounds`.
+    /// Clause `counted`: if counting began after a kept entry, or before a kept disturbance, the count is that
+    /// of the kept entries since then.
     pub fn net(&self) -> &Net<R>
         ensures state { result.now.state ≡ self.now.state }
         ensures spent { result.now.spent ≡ self.now.spent }
         ensures room { result.now.room ≡ self.now.room }
+        ensures counting { result.now.counting ≡ self.now.counting }
+        ensures counted { CountsKept R.table R.NODE_WEIGHT (kept_of self.now) self.now.counted_from self.now.counting }
         ensures run { IsRetainedRun R.table R.NODE_WEIGHT (kept_of self.now) }
         ensures log { self.now.base ≡ None → IsLog R.table (undropped_log self.now) }
         ensures upheld { Upholds R.table R.NODE_WEIGHT (kept_of self.now) }
     {
         &self.net
+    }
+
+    /// Counts rounds from here on, or from here anew. See `Net::count_rounds`, also for the cost.
+    /// `AllocError` if memory runs out; nothing has changed then.
+    pub fn count_rounds(&mut self) -> Result<(), Want>
+        ensures ok { OnOk result (self.new ≡ counting_journal R.table self.old) }
+        ensures err { OnErr result (self.new ≡ self.old) }
+    {
+        let last = self.len();
+        self.net.count_rounds()?;
+        self.counted_from = Some(last);
+        Ok(())
     }
 
     /// The charge, a bound on the moves before the next accepted disturbance. See `Net::charge`.
@@ -189,6 +215,8 @@ impl<R: Rules> Journal<R> {
         ensures ready { IfOk result (λ prepared. IsNextReceipt R.table self.new prepared) }
         ensures full { IsErrOf result LogFull ↔ (last_number (kept_of self.old) ≡ self.old.limit) }
         ensures kept { kept_of self.new ≡ kept_of self.old }
+        ensures counting { self.new.counting ≡ self.old.counting }
+        ensures from { self.new.counted_from ≡ self.old.counted_from }
     {
         let seq = self.make_room()?;
         let reply = self.net.prepare(&event)?;
@@ -207,6 +235,8 @@ impl<R: Rules> Journal<R> {
         ensures ready { IfOk result (λ prepared. IsNextReceipt R.table self.new prepared) }
         ensures full { IsErrOf result LogFull ↔ (last_number (kept_of self.old) ≡ self.old.limit) }
         ensures kept { kept_of self.new ≡ kept_of self.old }
+        ensures counting { self.new.counting ≡ self.old.counting }
+        ensures from { self.new.counted_from ≡ self.old.counted_from }
     {
         let seq = self.make_room()?;
         let reply = self.net.prepare_step(&choice, verdicts)?;
@@ -222,6 +252,8 @@ impl<R: Rules> Journal<R> {
         requires { IsNextReceipt R.table self.old prepared }
         ensures receipt { result ≡ prepared }
         ensures log { kept_of self.new ≡ kept_with R.table (kept_of self.old) prepared.event }
+        ensures counting { self.new.counting ≡ next_counting R.table prepared.reply self.new.state self.old.counting }
+        ensures from { self.new.counted_from ≡ self.old.counted_from }
     {
         let (entry, receipt) = prepared.parts();
         self.epochs.turn(receipt.seq, entry.reply(), &self.net);
@@ -239,6 +271,9 @@ impl<R: Rules> Journal<R> {
         ensures log { OnOk result (kept_of self.new ≡ kept_with R.table (kept_of self.old) event) }
         ensures full { IsErrOf result LogFull ↔ (last_number (kept_of self.old) ≡ self.old.limit) }
         ensures kept { OnErr result (kept_of self.new ≡ kept_of self.old) }
+        ensures counting { IfOk result (λ receipt. self.new.counting ≡ next_counting R.table receipt.reply self.new.state self.old.counting) }
+        ensures kept_counting { OnErr result (self.new.counting ≡ self.old.counting) }
+        ensures from { self.new.counted_from ≡ self.old.counted_from }
     {
         let prepared = self.prepare(event)?;
         Ok(self.commit(prepared))
@@ -256,6 +291,9 @@ impl<R: Rules> Journal<R> {
         ensures log { OnOk result (kept_of self.new ≡ kept_with R.table (kept_of self.old) (Step choice)) }
         ensures full { IsErrOf result LogFull ↔ (last_number (kept_of self.old) ≡ self.old.limit) }
         ensures kept { OnErr result (kept_of self.new ≡ kept_of self.old) }
+        ensures counting { IfOk result (λ receipt. self.new.counting ≡ next_counting R.table receipt.reply self.new.state self.old.counting) }
+        ensures kept_counting { OnErr result (self.new.counting ≡ self.old.counting) }
+        ensures from { self.new.counted_from ≡ self.old.counted_from }
     {
         let prepared = self.prepare_step(choice, verdicts)?;
         Ok(self.commit(prepared))
@@ -268,6 +306,8 @@ impl<R: Rules> Journal<R> {
         ensures kept { kept_of self.new ≡ kept_of self.old }
         ensures net { self.new.room ≡ self.old.room }
         ensures epochs { self.new.spare_epochs ≡ self.old.spare_epochs }
+        ensures counting { self.new.counting ≡ self.old.counting }
+        ensures from { self.new.counted_from ≡ self.old.counted_from }
         ensures full { IsErrOf result LogFull ↔ (last_number (kept_of self.old) ≡ self.old.limit) }
     {
         let last = self.len();

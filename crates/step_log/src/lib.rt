@@ -8,6 +8,8 @@
 //! network's state; each reply is the machine's; each epoch's moves are within the bound. After a fault
 //! nothing has changed.
 //!
+//! Both count rounds if asked (`count_rounds`): `net().rounds()` has the count.
+//!
 //! `record` is `prepare`, which takes all the memory, then `commit`, which cannot fail. An entry takes at
 //! most 80 bytes, plus its lists.
 //!
@@ -29,7 +31,6 @@ mod prepared;
 mod receipt;
 mod recorder;
 mod renumber;
-mod rounds;
 mod start_fault;
 
 pub use epoch::Epoch;

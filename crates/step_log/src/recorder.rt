@@ -12,12 +12,10 @@ ghost use Rattle.rule_engine.specs.PreparedEvents.{net_moment};
 ghost use Rattle.line_text.specs.EntryText.{entry_line};
 ghost use Rattle.line_text.specs.EventText.{event_text};
 ghost use Rattle.step_log.specs.declared.fault.RecordFault.TheVariants.{LogFull};
-ghost use Rattle.step_log.specs.Recording.{max_entries, opening_recording, opening_recording_with, resumed_recording, entered, entered_line};
+ghost use Rattle.step_log.specs.Recording.{max_entries, opening_recording, opening_recording_with, resumed_recording, counting_from, entered, entered_line};
 
-use crate::rounds::{begin, begin_step, follow};
 use crate::{Answer, MAX_ENTRIES, RecordFault};
 use line_text::{put_entry, put_entry_of_line};
-use round_counter::RoundCounter;
 use rule_engine::{Choice, Event, GraphFault, Net, Reply, Rules, Verdict, Want};
 use std::alloc::Global;
 use std::marker::Model;
@@ -29,22 +27,20 @@ pub struct Recorder<R: Rules> {
     pub(crate) len: u32,
     pub(crate) limit: u32,
     pub(crate) present: u32,
-    pub(crate) rounds: Option<RoundCounter>,
 }
 
 impl<R: Rules> Model for Recorder<R> {
     ghost use Rattle.std.specs.Coded.{codes};
     ghost use Rattle.rule_machine.specs.State.{state_code};
-    ghost use Rattle.step_log.specs.Recording.{Recording};
-    ghost use Rattle.step_log.specs.Rounds.{IsCountedRecording, counting_in};
+    ghost use Rattle.step_log.specs.Recording.{Recording, IsRecording};
 
     ghost Value = { Recording };
 
     ghost coded = { Prim.hlevel (codes, state_code) };
 
-    ghost view = { λ r. record { state = r.net.state; spent = r.net.spent; len = r.len; limit = r.limit; present = r.present; counting = counting_in R.table r.net.state r.rounds } };
+    ghost view = { λ r. record { state = r.net.state; spent = r.net.spent; len = r.len; limit = r.limit; present = r.present; counting = r.net.counting } };
 
-    ghost invariant = { λ r. IsCountedRecording R.table (record { state = r.net.state; spent = r.net.spent; len = r.len; limit = r.limit; present = r.present; counting = counting_in R.table r.net.state r.rounds }) r.rounds };
+    ghost invariant = { λ r. IsRecording (record { state = r.net.state; spent = r.net.spent; len = r.len; limit = r.limit; present = r.present; counting = r.net.counting }) };
 }
 
 impl<R: Rules> Recorder<R> {
@@ -85,17 +81,16 @@ impl<R: Rules> Recorder<R> {
             len: 0,
             limit: limit.min(MAX_ENTRIES),
             present,
-            rounds: None,
         })
     }
 
-    /// A recorder that goes on with a network after `number` entries.
+    /// A recorder that goes on with a network after `number` entries. It counts rounds if the network does.
     ///
     /// The limit counts all entries. A limit above 16,777,216 counts as 16,777,216, and a limit below
     /// `number` as `number`.
     pub fn of_net(net: Net<R>, number: u32, limit: u32) -> Recorder<R>
         requires few { number ≤ max_entries }
-        ensures { result ≡ resumed_recording (net_moment net) number limit }
+        ensures { result ≡ resumed_recording (net_moment net) net.counting number limit }
     {
         let present = net.store().nodes();
         // Gives the prover `IsState`.
@@ -105,7 +100,6 @@ impl<R: Rules> Recorder<R> {
             len: number,
             limit: number.max(limit.min(MAX_ENTRIES)),
             present,
-            rounds: None,
         }
     }
 
@@ -126,12 +120,22 @@ impl<R: Rules> Recorder<R> {
     }
 
     /// The network after all entries, for looks at it: `Net::spent`, `cost_of`, `silent_cost_of`, `is_at_rest`,
-    /// `reach_of`.
+    /// `reach_of`, `rounds`.
     pub fn net(&self) -> &Net<R>
         ensures state { result.now.state ≡ self.now.state }
         ensures spent { result.now.spent ≡ self.now.spent }
+        ensures counting { result.now.counting ≡ self.now.counting }
     {
         &self.net
+    }
+
+    /// Counts rounds from here on, or from here anew. See `Net::count_rounds`, also for the cost.
+    /// `AllocError` if memory runs out; nothing has changed then.
+    pub fn count_rounds(&mut self) -> Result<(), Want>
+        ensures ok { OnOk result (self.new ≡ counting_from R.table self.old) }
+        ensures err { OnErr result (self.new ≡ self.old) }
+    {
+        self.net.count_rounds()
     }
 
     /// The charge, a bound on the moves before the next accepted disturbance. See `Net::charge`.
@@ -173,9 +177,7 @@ impl<R: Rules> Recorder<R> {
         }
         self.net.prepare_into(event, reply)?;
         put_text(text, self.len + 1, event, line, reply)?;
-        begin(&mut self.rounds, &self.net, reply);
         self.net.commit(event, reply);
-        follow(&mut self.rounds, &self.net, reply);
         self.len += 1;
         Ok(())
     }
@@ -196,9 +198,7 @@ impl<R: Rules> Recorder<R> {
         if self.is_full() {
             return Err(RecordFault::LogFull);
         }
-        begin_step(&mut self.rounds, &self.net);
         let reply = self.net.apply_step(choice, verdicts)?;
-        follow(&mut self.rounds, &self.net, &reply);
         self.len += 1;
         Ok(Answer {
             seq: self.len,

@@ -11,3 +11,4 @@ pub mod EdgeAddition
 pub mod Nodes
 pub mod RemovedNodes
 pub mod CountedNeighbours
+pub mod TurningNeighbours

@@ -1,5 +1,5 @@
 -- A node that is counted at one name after another, as open or not as it is now.
-use Rattle.suitor_index.proofs.Prelude.{◌≡◌, ◌≢◌, ℕ, ◌+◌, ◌<◌, ◌≤◌, Bool, true, false, cond, ◌&&◌, ◌||◌, List, length, get_or, take, nat_eq, nat_lt, refl, sym, ap, ap₂, subst, ◌∙◌, ⊎_elim, arith, list_any, both_ways, IsStrictlyIncreasing, and_parts, cases_eq, le-ltb, ltb-false, ltb-true, or_cases, ne_eqb, eqb-true, eq-eqb, true≢false, get_or-take, get_or_default, length-take, Any-from_list_any, list_any_none, list_any_more, list_any_at, AllPairs-from_increasing, Tally, asks_for, tally_of, CanTurn, IsTurned, one_if}
+use Rattle.suitor_index.proofs.Prelude.{◌≡◌, ◌≢◌, ℕ, ◌+◌, ◌<◌, ◌≤◌, Bool, true, false, cond, ◌&&◌, ◌||◌, List, length, get_or, take, nat_eq, nat_lt, refl, sym, ap, ap₂, subst, ◌∙◌, ⊎_elim, arith, list_any, both_ways, IsStrictlyIncreasing, and_parts, cases_eq, le-ltb, ltb-false, ltb-true, or_cases, ne_eqb, eqb-true, eq-eqb, true≢false, get_or-take, get_or_default, length-take, take_all, Any-from_list_any, list_any_none, list_any_more, list_any_at, AllPairs-from_increasing, and_right, or-false, Option, is_none, nat_le, Tally, asks_for, tally_of, CanTurn, HasNoneAlone, IsTurned, is_null_with_none_but, one_if}
 
 -- two tests that don't both pass are counted one after the other
 one_or : (a b : Bool) → (b ≡ true → a ≡ false) → one_if (a || b) ≡ one_if a + one_if b
@@ -115,3 +115,28 @@ asked_so_far above v nodes i w k rising inside is none so_far = both_ways _ _ th
     back both =
         let parts = and_parts (list_any (nat_eq k) nodes) (asks_for above k v) both in
         any_before nodes i w k rising inside is parts.0 (λ later. true≢false (sym parts.1 ∙ later_ask_not above v w k none later))
+
+-- if all that ask were asked, those are all that ask
+pub asked_all : (above : Bool) (v : ℕ) (nodes : List ℕ) (i : ℕ) → length nodes ≤ i → AllAsk above v (take i nodes) → (k : ℕ) → list_any (nat_eq k) (take i nodes) ≡ (list_any (nat_eq k) nodes && asks_for above k v)
+asked_all above v nodes i end asked k =
+    both_ways _ _
+    (λ listed. ap₂ (λ (a b : Bool). a && b) (ap (list_any (nat_eq k)) (sym (take_all i nodes end)) ∙ listed) (asked k listed))
+    (λ both. ap (list_any (nat_eq k)) (take_all i nodes end) ∙ (and_parts (list_any (nat_eq k) nodes) (asks_for above k v) both).0)
+
+-- if none of those so far is alone, nor is the next, then none of both is
+pub none_more : (was is : Bool) (nodes : List ℕ) (i w : ℕ) (b c : List Tally) → i < length nodes → w ≡ get_or nodes i w → IsTurned (λ k. nat_eq k w) was is b c → HasNoneAlone (λ k. list_any (nat_eq k) (take i nodes)) is b → is_null_with_none_but is (tally_of c w) ≡ false → HasNoneAlone (λ k. list_any (nat_eq k) (take (i + 1) nodes)) is c
+none_more was is nodes i w b c inside at told so_far next k =
+    ap (λ (p : Bool). p && is_null_with_none_but is (tally_of c k)) (near_more nodes i w k inside at)
+    ∙ ⊎_elim
+    (λ (same : k ≡ w). and_right (list_any (nat_eq k) (take i nodes) || nat_eq k w) (is_null_with_none_but is (tally_of c k)) (ap (λ x. is_null_with_none_but is (tally_of c x)) same ∙ next))
+    (λ (apart : k ≢ w).
+    let other = ne_eqb k w apart in
+    ap₂ (λ (p q : Bool). (list_any (nat_eq k) (take i nodes) || p) && q) other
+    (ap₂ (λ (o : Option ℕ) (n : ℕ). is_none o && nat_le n (one_if is)) (told.aims k) (still was is (nat_eq k w) _ _ other (told.reached k)))
+    ∙ ap (λ (p : Bool). p && is_null_with_none_but is (tally_of b k)) (or-false (list_any (nat_eq k) (take i nodes)))
+    ∙ so_far k)
+    (cases_eq k w)
+
+-- those so far are all that ask
+pub none_asked : (p q : ℕ → Bool) (is : Bool) (b : List Tally) → ((k : ℕ) → p k ≡ q k) → HasNoneAlone p is b → HasNoneAlone q is b
+none_asked p q is b same none k = ap (λ (x : Bool). x && is_null_with_none_but is (tally_of b k)) (sym (same k)) ∙ none k

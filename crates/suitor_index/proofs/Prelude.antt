@@ -1,15 +1,17 @@
 -- What the proofs of this crate import from the crates below and from its own definitions.
-pub use Rattle.std.proofs.Common.{refl, subst, sym, ◌≡◌, ◌≢◌, ℕ, zero, suc, ◌+◌, ◌≤◌, Bool, true, false, cond, not, ◌&&◌, reverse, find, Option, Some, None, SomeIff, is_some, nat_eq, nat_lt, nat_le, IsTrue, MatchOption, ap, ap₂, ◌∙◌, ⊎_elim, arith, ◌<◌, ◌%◌, List, ◌||◌, length, get_or, take, ◌*◌, filter, ◌-◌, ◌++◌, IfSome, [], ◌∷◌, replicate, set, drop}
+pub use Rattle.std.proofs.Common.{refl, subst, sym, ◌≡◌, ◌≢◌, ℕ, zero, suc, ◌+◌, ◌≤◌, Bool, true, false, cond, not, ◌&&◌, reverse, find, Option, Some, None, SomeIff, is_none, is_some, nat_eq, nat_lt, nat_le, IsTrue, MatchOption, ap, ap₂, ◌∙◌, ⊎_elim, arith, ◌<◌, ◌%◌, List, ◌||◌, length, get_or, take, ◌*◌, filter, ◌-◌, ◌++◌, IfSome, [], ◌∷◌, replicate, set, drop}
+pub use Rattle.std.proofs.Math.Bool.{or-false}
 pub use Rattle.std.proofs.Math.Seq.{take-append_seam}
-pub use Rattle.std.proofs.lemmas.Bool.{and_parts, cases_eq, eq-eqb, false_from_ne_true, le-leb, lt-leb, lt-ltb, ne_eqb, true≢false, or_left, and_right, le-ltb, ltb-false, ltb-true, or_cases, eqb-true}
+pub use Rattle.std.proofs.lemmas.Bool.{and_parts, cases_eq, eq-eqb, false_from_ne_true, le-leb, lt-leb, lt-ltb, ne_eqb, true≢false, or_left, and_right, le-ltb, ltb-false, ltb-true, or_cases, or_parts, eqb-true}
 pub use Rattle.std.proofs.lemmas.Cmp.{eq_by_cmp_equiv}
-pub use Rattle.std.proofs.lemmas.List.{get_or-take, get_or_default, length-take, get_or-replicate, get_or-set_same, get_or-set_other, length-replicate, length-set, get_or_read_under}
+pub use Rattle.std.proofs.lemmas.List.{get_or-take, get_or_default, length-take, take_all, get_or-replicate, get_or-set_same, get_or-set_other, length-replicate, length-set, get_or_read_under}
 pub use Rattle.std.proofs.lemmas.List.Folds.{Any-from_list_any, list_any_none, list_any_more, list_any_at}
 pub use Rattle.std.proofs.lemmas.List.FromFn.{get_or-range_with_len, length-range_with_len}
 pub use Rattle.std.proofs.lemmas.List.Kept.{AllPairs-from_increasing, IsStrictlyIncreasing-filter}
 pub use Rattle.std.proofs.lemmas.List.Sorted.{IsPermutation-reverse, sum_by-IsPermutation}
 pub use Rattle.std.proofs.lemmas.List.Sums.{sum_by-cons}
 pub use Rattle.std.proofs.lemmas.Map.Views.{any-filter_same}
+pub use Rattle.std.specs.Bool.{beq}
 pub use Rattle.std.specs.Cmp.{both_ways}
 pub use Rattle.std.specs.List.{count_by, sum_by, list_any, range_with_len}
 pub use Rattle.std.specs.List.Sorted.{IsStrictlyIncreasing}
@@ -34,5 +36,6 @@ pub use Rattle.rule_machine.specs.State.{State, IsState, suits, has_suitor, firs
 pub use Rattle.rule_machine.specs.LocalViews.{is_reached, asks_for}
 pub use Rattle.suitor_index.specs.PriorIndexes.{WasIndexed}
 pub use Rattle.suitor_index.specs.Tallies.{IsIndexed, suitor_count, tally_at, name_if, IsLoneSuitor, tally_of, IsIndexOf, empty_tally, reduced}
-pub use Rattle.suitor_index.specs.TallyChanges.{one_if, IsOpenTo, CanTurn, IsTurned, AddsSuitor, IsAimed, IsRepointed, HasSuitor, HasTallyRoom}
+pub use Rattle.suitor_index.specs.TallyChanges.{one_if, IsOpenTo, CanTurn, IsTurned, AddsSuitor, IsAimed, IsRepointed, HasSuitor, HasTallyRoom, HasNoneAlone, is_null_with_none_but}
+pub use Rattle.suitor_index.specs.TurnedGuards.{may_turn, turns_with, TurnsNoneWith}
 pub use Rattle.suitor_index.specs.declared.tally.Tally.{Tally}

@@ -1,3 +1,4 @@
 pub mod PriorIndexes
 pub mod Tallies
 pub mod TallyChanges
+pub mod TurnedGuards

@@ -1,6 +1,6 @@
 -- How two tables of tallies differ by one node: by the node's target, and by the entries that count the
 -- node as open.
-use Rattle.std.specs.Prelude.{◌≡◌, ◌≢◌, ℕ, ◌+◌, ◌%◌, ◌<◌, ◌≤◌, Bool, true, false, cond, List, length, Option}
+use Rattle.std.specs.Prelude.{◌≡◌, ◌≢◌, ℕ, ◌+◌, ◌%◌, ◌<◌, ◌≤◌, Bool, true, false, ◌&&◌, cond, List, length, Option, is_none, nat_le}
 use Rattle.rule_machine.specs.State.{is_at}
 use Rattle.suitor_index.specs.declared.tally.Tally.{Tally}
 use Rattle.suitor_index.specs.Tallies.{tally_of}
@@ -65,3 +65,11 @@ pub record IsRepointed (was is : Option ℕ) (v : ℕ) (before after : List Tall
   pub reached : (k : ℕ) → (tally_of after k).reached ≡ (tally_of before k).reached
   pub aim : (tally_of after v).pointer ≡ is
   pub others : (k : ℕ) → k ≢ v → (tally_of after k).pointer ≡ (tally_of before k).pointer
+
+-- the pointer is null, and the entry counts no open node but one that is open as the first argument says
+abbrev pub is_null_with_none_but : Bool → Tally → Bool
+is_null_with_none_but is t = is_none t.pointer && nat_le t.reached (one_if is)
+
+-- no place that passes the test has such an entry
+abbrev pub HasNoneAlone : (ℕ → Bool) → Bool → List Tally → Type 0
+HasNoneAlone near is tallies = (k : ℕ) → (near k && is_null_with_none_but is (tally_of tallies k)) ≡ false

@@ -1,6 +1,8 @@
 //! The updates of the counts after a change of the network.
 
-ghost use Rattle.std.specs.Prelude.{◌≡◌, ◌+◌, ◌<◌, ◌≤◌, ◌&&◌, IsTrue, Option, true, length, nat_eq};
+ghost use Rattle.std.specs.Prelude.{◌≡◌, ◌+◌, ◌<◌, ◌≤◌, ◌&&◌, IsTrue, Option, false, true, length, nat_eq};
+ghost use Rattle.net_state.specs.Changes.{IsChange};
+ghost use Rattle.net_state.specs.StateViews.{StateView};
 ghost use Rattle.net_state.specs.declared.change.Change.TheVariants.{Pointed, Flagged, Linked, Unlinked, Joined};
 ghost use Rattle.rule_machine.specs.Network.{present};
 ghost use Rattle.rule_machine.specs.State.{pointer, flag};
@@ -8,6 +10,7 @@ ghost use Rattle.suitor_index.specs.PriorIndexes.{WasIndexed};
 ghost use Rattle.rule_machine.specs.LocalViews.{asks_for};
 ghost use Rattle.suitor_index.specs.Tallies.{tally_of, IsIndexed};
 ghost use Rattle.suitor_index.specs.TallyChanges.{IsOpenTo};
+ghost use Rattle.suitor_index.specs.TurnedGuards.{TurnsNone};
 
 use crate::Suitors;
 use crate::table::{aim, close_at, court, leave, open_at, turn};
@@ -20,22 +23,47 @@ impl<R: Rules> Observer for Suitors<R> {
 
     #[inline(always)]
     fn saw(&mut self, net: &NetState, change: Change) {
-        count_change::<R>(self.tallies.as_mut_slice(), net, change);
+        let _ = self.follow(net, change);
+    }
+}
+
+impl<R: Rules> Suitors<R> {
+    /// Updates the counts as `saw` does, and returns whether a neighbour's guard may have turned.
+    ///
+    /// `false` only if the change did not open or close its node, or if each neighbour whose guard asks for
+    /// the node points somewhere or has another open neighbour to ask for. Takes no memory.
+    #[inline(always)]
+    pub fn follow(&mut self, net: &NetState, change: Change) -> bool
+        requires { (before : StateView) × (IsChange before change net.now × ⟦<Suitors<R> as Observer>⟧.fits before self.old) }
+        ensures fits { ⟦<Suitors<R> as Observer>⟧.fits net.now self.new }
+        ensures none { result ≡ false → TurnsNone R.COURTS_HIGHER_ONLY R.table.opens net.now.state change }
+    {
+        count_change::<R>(self.tallies.as_mut_slice(), net, change)
     }
 }
 
 #[inline(always)]
-fn count_change<R: Rules>(tallies: &mut [Tally], net: &NetState, change: Change)
+fn count_change<R: Rules>(tallies: &mut [Tally], net: &NetState, change: Change) -> bool
     requires { WasIndexed R.COURTS_HIGHER_ONLY R.table.opens tallies.old change net.now }
-    ensures { IsIndexed R.COURTS_HIGHER_ONLY R.table.opens net.now.state tallies.new }
+    ensures index { IsIndexed R.COURTS_HIGHER_ONLY R.table.opens net.now.state tallies.new }
+    ensures none { result ≡ false → TurnsNone R.COURTS_HIGHER_ONLY R.table.opens net.now.state change }
 {
     match change {
         Change::Pointed(v, was, is) => pointed::<R>(tallies, net, v, was, is),
         Change::Flagged(v, was, is) => flagged::<R>(tallies, net, v, was, is),
-        Change::Linked(a, b) => linked::<R>(tallies, net, a, b),
-        Change::Unlinked(a, b) => unlinked::<R>(tallies, net, a, b),
-        Change::Joined(v) => joined::<R>(tallies, net, v),
-        Change::Removed(_) => {}
+        Change::Linked(a, b) => {
+            linked::<R>(tallies, net, a, b);
+            false
+        }
+        Change::Unlinked(a, b) => {
+            unlinked::<R>(tallies, net, a, b);
+            false
+        }
+        Change::Joined(v) => {
+            joined::<R>(tallies, net, v);
+            false
+        }
+        Change::Removed(_) => false,
     }
 }
 
@@ -47,11 +75,12 @@ fn pointed<R: Rules>(
     v: Node,
     was: Option<Node>,
     is: Option<Node>,
-)
+) -> bool
     requires told { WasIndexed R.COURTS_HIGHER_ONLY R.table.opens tallies.old (Pointed v was is) net.now }
     requires places { length tallies.old ≡ net.now.state.network.size + 1 }
     requires here { IsTrue (present net.now.state.network v) }
-    ensures { IsIndexed R.COURTS_HIGHER_ONLY R.table.opens net.now.state tallies.new }
+    ensures index { IsIndexed R.COURTS_HIGHER_ONLY R.table.opens net.now.state tallies.new }
+    ensures none { result ≡ false → TurnsNone R.COURTS_HIGHER_ONLY R.table.opens net.now.state (Pointed v was is) }
 {
     // Copied: the prover drops facts about a moved value.
     let left = was;
@@ -63,20 +92,21 @@ fn pointed<R: Rules>(
     leave(tallies, left, v);
     court(tallies, courted, v);
     aim(tallies, v, target);
-    turn::<R>(tallies, net.neighbours(v), v, was_open, is_open);
+    turn::<R>(tallies, net.neighbours(v), v, was_open, is_open)
 }
 
 /// Cost: if the node became open or ceased to be open, a write at each neighbour whose guard asks for the
 /// node; if guards ask for higher names alone, the scan stops at the first neighbour above the node.
-fn flagged<R: Rules>(tallies: &mut [Tally], net: &NetState, v: Node, was: bool, is: bool)
+fn flagged<R: Rules>(tallies: &mut [Tally], net: &NetState, v: Node, was: bool, is: bool) -> bool
     requires told { WasIndexed R.COURTS_HIGHER_ONLY R.table.opens tallies.old (Flagged v was is) net.now }
     requires places { length tallies.old ≡ net.now.state.network.size + 1 }
     requires here { IsTrue (present net.now.state.network v) }
-    ensures { IsIndexed R.COURTS_HIGHER_ONLY R.table.opens net.now.state tallies.new }
+    ensures index { IsIndexed R.COURTS_HIGHER_ONLY R.table.opens net.now.state tallies.new }
+    ensures none { result ≡ false → TurnsNone R.COURTS_HIGHER_ONLY R.table.opens net.now.state (Flagged v was is) }
 {
     let was_open = R::opens(net.pointer(v), was);
     let is_open = R::opens(net.pointer(v), is);
-    turn::<R>(tallies, net.neighbours(v), v, was_open, is_open);
+    turn::<R>(tallies, net.neighbours(v), v, was_open, is_open)
 }
 
 /// Cost: at most one changed count at each end.

@@ -1,11 +1,12 @@
 //! Updates of a table of tallies, one for each name, when one node changes.
 
-ghost use Rattle.std.specs.Prelude.{◌≡◌, ℕ, ◌<◌, ◌≤◌, ◌&&◌, true, IfSome, length, nat_eq};
+ghost use Rattle.std.specs.Prelude.{◌≡◌, ℕ, ◌<◌, ◌≤◌, ◌&&◌, false, not, true, IfSome, length, nat_eq};
+ghost use Rattle.std.specs.Bool.{beq};
 ghost use Rattle.std.specs.List.{list_any};
 ghost use Rattle.std.specs.List.Sorted.{IsStrictlyIncreasing};
 ghost use Rattle.rule_machine.specs.LocalViews.{asks_for};
 ghost use Rattle.suitor_index.specs.Tallies.{tally_of};
-ghost use Rattle.suitor_index.specs.TallyChanges.{AddsSuitor, IsAimed, IsOpenTo, HasSuitor, HasTallyRoom, CanTurn, IsTurned};
+ghost use Rattle.suitor_index.specs.TallyChanges.{AddsSuitor, IsAimed, IsOpenTo, HasSuitor, HasTallyRoom, CanTurn, IsTurned, HasNoneAlone, is_null_with_none_but};
 
 use crate::tally::Tally;
 use registers::Pointer;
@@ -60,35 +61,49 @@ pub(crate) fn close_at(tallies: &mut [Tally], w: Node)
 }
 
 /// Updates the count of `w` for one neighbour: whether that neighbour `was` open and `is` open.
+///
+/// Returns whether `w` then points nowhere and counts no open node but that neighbour.
 #[inline(always)]
-fn turn_at(tallies: &mut [Tally], w: Node, was: bool, is: bool)
+fn turn_at(tallies: &mut [Tally], w: Node, was: bool, is: bool) -> bool
     requires within { w < length tallies.old }
     requires turns { CanTurn was is (tally_of tallies.old w) }
-    ensures { IsTurned (λ k. nat_eq k w) was is tallies.old tallies.new }
+    ensures turned { IsTurned (λ k. nat_eq k w) was is tallies.old tallies.new }
+    ensures alone { result ≡ is_null_with_none_but is (tally_of tallies.new w) }
 {
     match (was, is) {
         (false, true) => open_at(tallies, w),
         (true, false) => close_at(tallies, w),
         _ => {}
     }
+    tallies[w.place()].is_null_with_none_but(is)
 }
 
 /// Updates the count of each of the ascending `nodes` whose guard asks for `v`.
 ///
-/// `was` and `is` are whether `v` was open and is open.
-pub(crate) fn turn<R: Rules>(tallies: &mut [Tally], nodes: &[Node], v: Node, was: bool, is: bool)
+/// `was` and `is` are whether `v` was open and is open. Returns whether they differ and one of those nodes
+/// points nowhere and counts no open node but `v`.
+pub(crate) fn turn<R: Rules>(
+    tallies: &mut [Tally],
+    nodes: &[Node],
+    v: Node,
+    was: bool,
+    is: bool,
+) -> bool
     requires rising { IsStrictlyIncreasing nodes.now }
     requires within { (k : ℕ) → list_any (nat_eq k) nodes.now ≡ true → k < length tallies.old }
     requires turns { (k : ℕ) → (list_any (nat_eq k) nodes.now && asks_for R.COURTS_HIGHER_ONLY k v) ≡ true → CanTurn was is (tally_of tallies.old k) }
-    ensures { IsTurned (λ k. list_any (nat_eq k) nodes.now && asks_for R.COURTS_HIGHER_ONLY k v) was is tallies.old tallies.new }
+    ensures turned { IsTurned (λ k. list_any (nat_eq k) nodes.now && asks_for R.COURTS_HIGHER_ONLY k v) was is tallies.old tallies.new }
+    ensures none { result ≡ false → not (beq was is) ≡ true → HasNoneAlone (λ k. list_any (nat_eq k) nodes.now && asks_for R.COURTS_HIGHER_ONLY k v) is tallies.new }
 {
     if was == is {
-        return;
+        return false;
     }
+    let mut alone = false;
     for &w in nodes {
         if !asks_for::<R>(w, v) {
-            return;
+            return alone;
         }
-        turn_at(tallies, w, was, is);
+        alone |= turn_at(tallies, w, was, is);
     }
+    alone
 }

@@ -22,10 +22,11 @@ abbrev pub cost_text : Option ℕ → List ℕ
 cost_text None = codes "-"
 cost_text (Some cost) = number_text cost
 
--- the entry that began the epoch, its moves, edges and nodes, its bound, and the cost of its disturbance
+-- the entry that began the epoch, its moves, edges and nodes, its bound, the cost of its disturbance, and its
+-- complete rounds
 abbrev pub epoch_row : RuleSet → CostedEpoch → List ℕ
 epoch_row rules row =
-    start_cell row.epoch.start ++ cell row.epoch.moves ++ cell row.epoch.edges ++ cell row.epoch.nodes ++ cell (bound_of rules row.epoch) ++ cost_text row.cost ++ codes "\n"
+    start_cell row.epoch.start ++ cell row.epoch.moves ++ cell row.epoch.edges ++ cell row.epoch.nodes ++ cell (bound_of rules row.epoch) ++ cost_text row.cost ++ codes "," ++ number_text row.rounds ++ codes "\n"
 
 abbrev pub epoch_table : RuleSet → List CostedEpoch → List ℕ
-epoch_table rules rows = codes "start,moves,edges,nodes,bound,cost\n" ++ flat_map (epoch_row rules) rows
+epoch_table rules rows = codes "start,moves,edges,nodes,bound,cost,rounds\n" ++ flat_map (epoch_row rules) rows

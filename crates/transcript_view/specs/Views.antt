@@ -4,7 +4,7 @@ use Rattle.rule_machine.specs.declared.rule_set.RuleSet.{RuleSet}
 use Rattle.rule_machine.specs.State.{State}
 use Rattle.auditor.specs.Damage.{IsDamage}
 use Rattle.auditor.specs.declared.epoch.CostedEpoch.{CostedEpoch}
-use Rattle.auditor.specs.Epochs.{AreCostedEpochs, IsWithinItsBound, epochs_in}
+use Rattle.auditor.specs.Epochs.{AreCostedEpochs, HasFewRounds, IsWithinItsBound, epochs_in}
 use Rattle.auditor.specs.EntryWindows.{HasDroppedEntry, HasTooFew, IsMetDamage, IsStateAfter}
 use Rattle.transcript_view.specs.Picture.{picture_of}
 use Rattle.transcript_view.specs.declared.view.View.{View}
@@ -18,12 +18,13 @@ pub record IsPictureOf (bytes : List ℕ) (last : Option ℕ) (text : List ℕ) 
   pub reached : IsStateAfter bytes last rules state
   pub text_is : text ≡ picture_of rules state
 
--- the text is the table of the run's epochs, each within its bound
+-- the text is the table of the run's epochs, whose moves and rounds are within their bounds
 pub record IsTableOf (bytes : List ℕ) (text : List ℕ) : Type 0 where
   pub rules : RuleSet
   pub rows : List CostedEpoch
   pub are : AreCostedEpochs bytes rules rows
   pub bounded : All (IsWithinItsBound rules) (epochs_in rows)
+  pub few : All (HasFewRounds rules) rows
   pub text_is : text ≡ epoch_table rules rows
 
 -- The view is the picture of the state after this entry, or after all entries; or it names the damage of a

@@ -51,6 +51,8 @@ fn put_row(out: &mut Vec<u8>, rules: RuleSet, row: CostedEpoch) -> Result<(), Wa
     put_cell(out, u64::from(epoch.nodes()))?;
     put_cell(out, epoch.bound(rules))?;
     put_cost(out, row.cost)?;
+    out.extend_from_slice(b",")?;
+    put_number(out, u64::from(row.rounds))?;
     out.extend_from_slice(b"\n")
 }
 
@@ -59,7 +61,7 @@ pub(crate) fn epoch_table(alloc: Global, epochs: &Epochs) -> Result<Vec<u8>, Wan
     ensures { IfOk result (λ text. text.items ≡ epoch_table epochs.now.rules epochs.now.list.items) }
 {
     let mut out = Vec::new(alloc);
-    out.extend_from_slice(b"start,moves,edges,nodes,bound,cost\n")?;
+    out.extend_from_slice(b"start,moves,edges,nodes,bound,cost,rounds\n")?;
     for &row in &epochs.list {
         put_row(&mut out, epochs.rules, row)?;
     }

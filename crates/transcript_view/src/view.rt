@@ -44,7 +44,7 @@ pub fn view_picture(alloc: Global, bytes: &[u8], last: Option<u32>) -> Result<Vi
 
 /// The table of the run's epochs.
 ///
-/// Fails only if memory runs out. Costs the audit, and a line for each epoch.
+/// Fails only if memory runs out. Costs the audit with a count of rounds, and a line for each epoch.
 pub fn view_epochs(alloc: Global, bytes: &[u8]) -> Result<View, Want>
     ensures { IfOk result (IsEpochTable bytes.now) }
 {

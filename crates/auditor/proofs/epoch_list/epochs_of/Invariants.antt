@@ -6,7 +6,7 @@ abbrev pub invariant-loop-rest : goal.invariant-loop-rest
 invariant-loop-rest l = record {
   at : IsCursorAt l.bytes l.replay l.rest;
   compared : IsCompared l.replay l.rest;
-  listed : IsListed l.bytes l.replay.rules l.replay.size l.replay.audit l.rest l.list.items l.row;
+  listed : IsListed l.bytes l.replay.rules l.replay.size l.replay.audit l.rest l.list.items l.row l.rounds;
   few : l.row.epoch.moves ≤ l.replay.audit.counted.moves + 4294967295;
 }
 

@@ -1,4 +1,4 @@
-use Rattle.auditor.proofs.Prelude.{◌∙◌, subst, sym, List, ℕ, Result, IfOk, IfErr, OnOk, Summary, AuditFault, IsAccepted, IsAuditFault, AcceptsRuns, NamesDamage}
+use Rattle.auditor.proofs.Prelude.{◌∙◌, subst, sym, Result, IfOk, IfErr, OnOk, Summary, AuditFault, IsAccepted, IsAuditFault, AcceptsRuns, NamesDamage}
 use Rattle.std.specs.Io.KnownBytes.{IsAtEnd}
 use Rattle.auditor.proofs.VerdictUniqueness.{for_known}
 use Rattle.auditor.proofs.TranscriptEnds.{accepted_in, damage_in, done_in, fault_in}

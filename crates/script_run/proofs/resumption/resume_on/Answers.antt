@@ -1,4 +1,5 @@
 use Rattle.script_run.proofs.Prelude.{◌≡◌, ◌∙◌, ℕ, ◌≤◌, [], ap, arith, lines_of, progress, with_checkpoint}
+use Rattle.std.proofs.Common.{ap₂}
 use Rattle.std.specs.Prelude.{max, min}
 use Rattle.rule_machine.specs.RuleTable.{RuleTable}
 use Rattle.step_log.specs.Recording.{Recording, resumed_recording}
@@ -22,7 +23,7 @@ returns-in_default-resume-clause-outcome g c =
 pub returns-clause-outcome : goal.returns-clause-outcome
 returns-clause-outcome g c =
     let restart = c.args.restart in
-    let same = c.of_net-recorder.ensures ∙ ap (λ m. resumed_recording m restart.number restart.limit) c.in-Ok.ensures in
+    let same = c.of_net-recorder.ensures ∙ ap₂ (λ m counting. resumed_recording m counting restart.number restart.limit) c.in-Ok.ensures.moment c.in-Ok.ensures.uncounted in
     let limit = c.in-Ok-resume.ensures.limit ∙ ap (λ (r : Recording). r.limit) same ∙ limit_kept restart.number restart.limit restart.numbered restart.few_entries in
     let begins = c.in-Ok-resume.ensures.begins ∙ ap (λ (r : Recording). with_checkpoint (progress restart.rules r [])) same in
     Ends-asked limit begins g.R.Rules.table _ _ _ c.play.result c.play.ensures.outcome
@@ -30,7 +31,7 @@ returns-clause-outcome g c =
 pub returns-clause-whole : goal.returns-clause-whole
 returns-clause-whole g c unread =
     let restart = c.args.restart in
-    let same = c.of_net-recorder.ensures ∙ ap (λ m. resumed_recording m restart.number restart.limit) c.in-Ok.ensures in
+    let same = c.of_net-recorder.ensures ∙ ap₂ (λ m counting. resumed_recording m counting restart.number restart.limit) c.in-Ok.ensures.moment c.in-Ok.ensures.uncounted in
     let limit = c.in-Ok-resume.ensures.limit ∙ ap (λ (r : Recording). r.limit) same ∙ limit_kept restart.number restart.limit restart.numbered restart.few_entries in
     let begins = c.in-Ok-resume.ensures.begins ∙ ap (λ (r : Recording). with_checkpoint (progress restart.rules r [])) same in
     Whole-asked limit begins g.R.Rules.table _ _ _ (c.play.ensures.whole unread)

@@ -12,11 +12,11 @@ of_state-requires-clause-unflagged g c none v = c.args.restart.unflagged (ap (λ
 
 pub returns-clause-nodes : goal.returns-clause-nodes
 returns-clause-nodes g c =
-    subst (λ (m : Moment). IfOk c.of_net.result (λ made. name_count_of made ≡ m.state.network.size)) c.in_ok-net.ensures c.of_net.ensures.nodes
+    subst (λ (m : Moment). IfOk c.of_net.result (λ made. name_count_of made ≡ m.state.network.size)) c.in_ok-net.ensures.moment c.of_net.ensures.nodes
 
 pub returns-clause-present : goal.returns-clause-present
 returns-clause-present g c =
-    subst (λ (m : Moment). IfOk c.of_net.result (λ made. first_nodes_of made ≡ node_count m.state.network)) c.in_ok-net.ensures c.of_net.ensures.present
+    subst (λ (m : Moment). IfOk c.of_net.result (λ made. first_nodes_of made ≡ node_count m.state.network)) c.in_ok-net.ensures.moment c.of_net.ensures.present
 
 pub returns-clause-limit : goal.returns-clause-limit
 returns-clause-limit g c =
@@ -25,4 +25,4 @@ returns-clause-limit g c =
 
 pub returns-clause-beginning : goal.returns-clause-beginning
 returns-clause-beginning g c =
-    subst (λ (m : Moment). IfOk c.of_net.result (λ made. beginning_of made ≡ Some (base_of c.args.restart.number m))) c.in_ok-net.ensures c.of_net.ensures.beginning
+    subst (λ (m : Moment). IfOk c.of_net.result (λ made. beginning_of made ≡ Some (base_of c.args.restart.number m))) c.in_ok-net.ensures.moment c.of_net.ensures.beginning

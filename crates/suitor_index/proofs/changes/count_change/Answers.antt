@@ -20,5 +20,5 @@ unlinked-requires-clause-told g c = told_as _ _ _ _ _ _ c.in-Unlinked.is c.requi
 pub joined-requires-clause-told : goal.joined-requires-clause-told
 joined-requires-clause-told g c = told_as _ _ _ _ _ _ c.in-Joined.is c.requires
 
-pub returns-in-Removed : goal.returns-in-Removed
-returns-in-Removed g c = index_freed _ _ _ _ _ (told_as _ _ _ _ _ _ c.in-Removed.is c.requires)
+pub returns-in-Removed-clause-index : goal.returns-in-Removed-clause-index
+returns-in-Removed-clause-index g c = index_freed _ _ _ _ _ (told_as _ _ _ _ _ _ c.in-Removed.is c.requires)

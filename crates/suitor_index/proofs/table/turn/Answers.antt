@@ -1,9 +1,9 @@
-use Rattle.suitor_index.proofs.Prelude.{◌≡◌, ◌∙◌, ◌&&◌, ℕ, Bool, true, nat_eq, take, sym, ap₂, list_any, asks_for}
-use Rattle.suitor_index.proofs.Loops.{turned_both, turned_alike, can_turn_still, not_before, near_more, near_apart, near_there, all_ask_more, asked_so_far}
+use Rattle.suitor_index.proofs.Prelude.{◌≡◌, ◌∙◌, ◌&&◌, ℕ, Bool, true, nat_eq, take, sym, ap₂, arith, list_any, or_parts, asks_for}
+use Rattle.suitor_index.proofs.Loops.{turned_both, turned_alike, can_turn_still, not_before, near_more, near_apart, near_there, all_ask_more, asked_so_far, asked_all, none_more, none_asked}
 use Rattle.suitor_index.proofs.table.turn.Goals as goal
 
-pub turn_at-requires-clause-turns : goal.turn_at-requires-clause-turns
-turn_at-requires-clause-turns g c =
+pub turn_at-alone-requires-clause-turns : goal.turn_at-alone-requires-clause-turns
+turn_at-alone-requires-clause-turns g c =
     let w = c.w-item.result in
     let nodes = c.args.nodes.now in
     let i = c.loop-w.w-index in
@@ -21,14 +21,38 @@ loop-w-preserved g c =
       told = turned_both c.args.was c.args.is (λ k. list_any (nat_eq k) (take i nodes)) (λ k. nat_eq k w) _ _ _ _
           (λ k. near_apart nodes i w k c.requires.rising c.loop-w-test.true c.w-item.is)
           (λ k. near_more nodes i w k c.loop-w-test.true c.w-item.is)
-          c.loop-w.invariant.told c.turn_at.ensures;
+          c.loop-w.invariant.told c.turn_at-alone.ensures.turned;
+      none = λ off.
+          let both = or_parts c.loop-w.alone c.turn_at-alone.result off in
+          none_more c.args.was c.args.is nodes i w _ _ c.loop-w-test.true c.w-item.is c.turn_at-alone.ensures.turned (c.loop-w.invariant.none both.0) (sym c.turn_at-alone.ensures.alone ∙ both.1);
     }
 
-pub returns-then-not-asks_for : goal.returns-then-not-asks_for
-returns-then-not-asks_for g c =
+pub returns-then-not-asks_for-clause-turned : goal.returns-then-not-asks_for-clause-turned
+returns-then-not-asks_for-clause-turned g c =
     let w = c.w-item.result in
     let nodes = c.args.nodes.now in
     let i = c.loop-w.w-index in
     turned_alike c.args.was c.args.is (λ k. list_any (nat_eq k) (take i nodes)) (λ k. list_any (nat_eq k) nodes && asks_for g.R.Rules.COURTS_HIGHER_ONLY k c.args.v) c.args.tallies.now c.loop-w.tallies
     (λ k. asked_so_far g.R.Rules.COURTS_HIGHER_ONLY c.args.v nodes i w k c.requires.rising c.loop-w-test.true c.w-item.is (sym c.asks_for.ensures ∙ c.if-not-asks_for.true) c.loop-w.invariant.ask)
     c.loop-w.invariant.told
+
+pub returns-then-not-asks_for-clause-none : goal.returns-then-not-asks_for-clause-none
+returns-then-not-asks_for-clause-none g c off moved =
+    let w = c.w-item.result in
+    let nodes = c.args.nodes.now in
+    let i = c.loop-w.w-index in
+    none_asked (λ k. list_any (nat_eq k) (take i nodes)) (λ k. list_any (nat_eq k) nodes && asks_for g.R.Rules.COURTS_HIGHER_ONLY k c.args.v) c.args.is c.loop-w.tallies
+    (λ k. asked_so_far g.R.Rules.COURTS_HIGHER_ONLY c.args.v nodes i w k c.requires.rising c.loop-w-test.true c.w-item.is (sym c.asks_for.ensures ∙ c.if-not-asks_for.true) c.loop-w.invariant.ask)
+    (c.loop-w.invariant.none off)
+
+pub returns-clause-turned : goal.returns-clause-turned
+returns-clause-turned g c =
+    turned_alike c.args.was c.args.is (λ k. list_any (nat_eq k) (take c.loop-w.w-index c.args.nodes.now)) (λ k. list_any (nat_eq k) c.args.nodes.now && asks_for g.R.Rules.COURTS_HIGHER_ONLY k c.args.v) c.args.tallies.now c.loop-w.tallies
+    (asked_all g.R.Rules.COURTS_HIGHER_ONLY c.args.v c.args.nodes.now c.loop-w.w-index (omega arith) c.loop-w.invariant.ask)
+    c.loop-w.invariant.told
+
+pub returns-clause-none : goal.returns-clause-none
+returns-clause-none g c off moved =
+    none_asked (λ k. list_any (nat_eq k) (take c.loop-w.w-index c.args.nodes.now)) (λ k. list_any (nat_eq k) c.args.nodes.now && asks_for g.R.Rules.COURTS_HIGHER_ONLY k c.args.v) c.args.is c.loop-w.tallies
+    (asked_all g.R.Rules.COURTS_HIGHER_ONLY c.args.v c.args.nodes.now c.loop-w.w-index (omega arith) c.loop-w.invariant.ask)
+    (c.loop-w.invariant.none off)

@@ -1,6 +1,5 @@
-use Rattle.auditor.proofs.Prelude.{◌≡◌, ◌∙◌, ◌+◌, ◌*◌, ◌≤◌, ℕ, [], refl, ap, arith, ∥∥₁_elim, props, State, NumberedMoment, edge_count, node_count, stand_of}
+use Rattle.auditor.proofs.Prelude.{◌≡◌, ◌∙◌, ◌+◌, ◌*◌, ◌≤◌, ℕ, [], refl, ap, arith, ∥∥₁_elim, props, State, NumberedMoment, edge_count, node_count}
 use Rattle.auditor.specs.declared.transcript_end.TranscriptEnd.{TranscriptEnd}
-use Rattle.auditor.specs.TranscriptEnds.{MayGoOn}
 use Rattle.auditor.proofs.Spent.{reached_within}
 use Rattle.auditor.proofs.TranscriptEnds.{IsEndOf, end_is, goes_on}
 use Rattle.auditor.proofs.transcript_cursor.TranscriptCursor.into_end.Goals as goal

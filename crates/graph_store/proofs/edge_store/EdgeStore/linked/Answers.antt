@@ -1,36 +1,36 @@
-use Rattle.graph_store.proofs.Prelude.{◌<◌, length, arith, ap, sym, subst, ◌∙◌, IsTrue, IsStrictlyIncreasing, linked, present, Graph, contents, has}
-use Rattle.graph_store.proofs.Contents.{row_read, row_past, found}
+use Rattle.graph_store.proofs.Prelude.{◌≤◌, length, arith, ap, sym, subst, ◌∙◌, [], IsTrue, IsStrictlyIncreasing, linked, present, Graph, has, get_or_past}
+use Rattle.graph_store.proofs.Contents.{found}
 use Rattle.graph_store.proofs.Faults.{are_joined}
 use Rattle.graph_store.proofs.Store.{linked_by, linked_present}
 use Rattle.graph_store.proofs.edge_store.EdgeStore.linked.Goals as goal
 
+pub returns-then-name-self-clause-value : goal.returns-then-name-self-clause-value
+returns-then-name-self-clause-value c =
+    let places = c.self.invariant.0.is_rows.places in
+    let past : length c.self.inside.rows.lists ≤ c.args.a = omega (arith, places, c.if-name-self.true, c.name.ensures.same) in
+    sym (ap (λ l. has l c.args.b) (get_or_past c.self.inside.rows.lists c.args.a [] past))
+    ∙ linked_by c.self.inside.nodes c.self.inside.here c.self.inside.rows.lists c.args.self.now.network c.args.a c.args.b (ap (λ (g : Graph). g.network) c.self.view_is) c.self.invariant.0.is_rows
+
+pub row-requires : goal.row-requires
+row-requires c =
+    let places = c.self.invariant.0.is_rows.places in
+    omega (arith, places, c.if-name-self.false, c.name.ensures.same)
+
 pub find_place-requires : goal.find_place-requires
-find_place-requires c =
-    let got = c.in-Some.ensures.lookup in
-    let inside : c.args.a < length c.self.inside.rows.items = omega (arith, got.3.0, c.place.ensures.same, ap length c.deref.ensures.value) in
-    let row = c.deref-in-Some.ensures.value ∙ row_read c.self.inside.rows.items c.deref.result.now c.args.a c.place.result c.in-Some.row.now c.deref.ensures.value c.place.ensures.same inside got.1 in
-    subst IsStrictlyIncreasing (sym row) (c.self.invariant.0.is_rows.rising c.args.a)
+find_place-requires c = subst IsStrictlyIncreasing (sym c.row.ensures) (c.self.invariant.0.is_rows.rising c.args.a)
 
-pub returns-in-Some-clause-value : goal.returns-in-Some-clause-value
-returns-in-Some-clause-value c =
-    let got = c.in-Some.ensures.lookup in
-    let inside : c.args.a < length c.self.inside.rows.items = omega (arith, got.3.0, c.place.ensures.same, ap length c.deref.ensures.value) in
-    let row = c.deref-in-Some.ensures.value ∙ row_read c.self.inside.rows.items c.deref.result.now c.args.a c.place.result c.in-Some.row.now c.deref.ensures.value c.place.ensures.same inside got.1 in
+pub returns-clause-value : goal.returns-clause-value
+returns-clause-value c =
     c.is_ok.ensures.value
-    ∙ found c.deref-in-Some.result.now c.args.b c.find_place.result c.find_place.ensures
-    ∙ ap (λ l. has l c.args.b) row
-    ∙ linked_by c.self.inside.nodes c.self.inside.here (contents c.self.inside.rows.items) c.args.self.now.network c.args.a c.args.b (ap (λ (g : Graph). g.network) c.self.view_is) c.self.invariant.0.is_rows
+    ∙ found c.row.result.now c.args.b c.find_place.result c.find_place.ensures
+    ∙ ap (λ l. has l c.args.b) c.row.ensures
+    ∙ linked_by c.self.inside.nodes c.self.inside.here c.self.inside.rows.lists c.args.self.now.network c.args.a c.args.b (ap (λ (g : Graph). g.network) c.self.view_is) c.self.invariant.0.is_rows
 
-pub returns-in-Some-clause-present : goal.returns-in-Some-clause-present
-returns-in-Some-clause-present c h =
-    let both = linked_present c.self.inside.nodes c.self.inside.here (contents c.self.inside.rows.items) c.args.a c.args.b c.self.invariant.0.is_rows (ap (λ net. linked net c.args.a c.args.b) (ap (λ (g : Graph). g.network) c.self.view_is) ∙ sym (returns-in-Some-clause-value c) ∙ h) in
+pub returns-clause-present : goal.returns-clause-present
+returns-clause-present c h =
+    let both = linked_present c.self.inside.nodes c.self.inside.here c.self.inside.rows.lists c.args.a c.args.b c.self.invariant.0.is_rows (ap (λ net. linked net c.args.a c.args.b) (ap (λ (g : Graph). g.network) c.self.view_is) ∙ sym (returns-clause-value c) ∙ h) in
     subst (λ net. IsTrue (present net c.args.a) × IsTrue (present net c.args.b)) (ap (λ (g : Graph). g.network) c.self.view_is) both
 
-pub returns-in-Some-clause-apart : goal.returns-in-Some-clause-apart
-returns-in-Some-clause-apart c h =
-    (are_joined c.self.inside.nodes c.self.inside.here (contents c.self.inside.rows.items) c.args.self.now.network c.args.a c.args.b (ap (λ (g : Graph). g.network) c.self.view_is) c.self.invariant.0.is_rows (sym (returns-in-Some-clause-value c) ∙ h)).apart
-
-pub returns-in-None-clause-value : goal.returns-in-None-clause-value
-returns-in-None-clause-value c =
-    sym (ap (λ l. has l c.args.b) (row_past c.self.inside.rows.items c.deref.result.now c.args.a c.place.result c.deref.ensures.value c.place.ensures.same c.in-None.ensures.lookup.3))
-    ∙ linked_by c.self.inside.nodes c.self.inside.here (contents c.self.inside.rows.items) c.args.self.now.network c.args.a c.args.b (ap (λ (g : Graph). g.network) c.self.view_is) c.self.invariant.0.is_rows
+pub returns-clause-apart : goal.returns-clause-apart
+returns-clause-apart c h =
+    (are_joined c.self.inside.nodes c.self.inside.here c.self.inside.rows.lists c.args.self.now.network c.args.a c.args.b (ap (λ (g : Graph). g.network) c.self.view_is) c.self.invariant.0.is_rows (sym (returns-clause-value c) ∙ h)).apart

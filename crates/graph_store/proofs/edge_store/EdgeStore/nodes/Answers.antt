@@ -1,16 +1,16 @@
-use Rattle.graph_store.proofs.Prelude.{length, arith, ap, ◌∙◌, length-filter, length-range_with_len, node_count, present, range_with_len, count_by-le-length, Graph, contents, network_of}
+use Rattle.graph_store.proofs.Prelude.{length, arith, ap, ◌∙◌, length-filter, length-range_with_len, node_count, present, range_with_len, count_by-le-length, Graph, network_of}
 use Rattle.graph_store.proofs.PresentRows.{members_names}
 use Rattle.graph_store.proofs.edge_store.EdgeStore.nodes.Goals as goal
 
 pub returns-clause-count : goal.returns-clause-count
 returns-clause-count c =
     c.count.ensures
-    ∙ ap length (members_names (network_of c.self.inside.nodes c.self.inside.here (contents c.self.inside.rows.items)) c.self.invariant.0.is_rows.roll_len c.self.invariant.0.is_rows.nobody)
+    ∙ ap length (members_names (network_of c.self.inside.nodes c.self.inside.here c.self.inside.rows.lists) c.self.invariant.0.is_rows.roll_len c.self.invariant.0.is_rows.nobody)
     ∙ ap node_count (ap (λ (g : Graph). g.network) c.self.view_is)
 
 pub returns-clause-few : goal.returns-clause-few
 returns-clause-few c =
-    let net = network_of c.self.inside.nodes c.self.inside.here (contents c.self.inside.rows.items) in
+    let net = network_of c.self.inside.nodes c.self.inside.here c.self.inside.rows.lists in
     let is = c.count.ensures ∙ ap length (members_names net c.self.invariant.0.is_rows.roll_len c.self.invariant.0.is_rows.nobody) in
     let most = count_by-le-length (present net) (range_with_len 1 net.size) in
     let few = c.self.invariant.0.few_nodes in

@@ -1,7 +1,7 @@
 use Rattle.std.proofs.Common.{◌≡◌, IfSome, subst, sym}
 use Rattle.rule_machine.specs.Tables.{table_of}
 use Rattle.round_laws.specs.RoundCounts.{rounds_of}
-use Rattle.step_log.specs.Rounds.{HasRounds}
+use Rattle.rule_engine.specs.Rounds.{HasRounds}
 use Rattle.rudekpi_c.specs.declared.session.Machine.{Machine}
 use Rattle.rudekpi_c.specs.Session.{stands_at, rules_at}
 use Rattle.rudekpi_c.proofs.session.Session.rounds.Goals as goal

@@ -1,6 +1,6 @@
 use Rattle.std.proofs.Common.{subst, sym}
 use Rattle.rule_machine.specs.Tables.{table_of}
-use Rattle.rudekpi_c.specs.RoundCalls.{LeavesIfCounted}
+use Rattle.rule_engine.specs.RoundsLeft.{LeavesIfCounted}
 use Rattle.rudekpi_c.specs.declared.session.Machine.{Machine}
 use Rattle.rudekpi_c.specs.Session.{stands_at, rules_at}
 use Rattle.rudekpi_c.proofs.session.Session.rounds_left.Goals as goal

@@ -1,16 +1,27 @@
-use Rattle.rule_engine.proofs.Prelude.{◌≡◌, ◌∙◌, ap, sym, subst, arith, reply_of, charge_bound, IsWithinBudget, moment, NetView, StateView, Answers}
+use Rattle.rule_engine.proofs.Prelude.{◌≡◌, ◌∙◌, ap, sym, subst, arith, reply_of, charge_bound, IsWithinBudget, Moment, moment, NetView, next_counting, StateView, Answers}
 use Rattle.rule_engine.proofs.Moments.{turn_answers, prepared_is_paid}
 use Rattle.rule_engine.proofs.net.Net.commit.Goals as goal
 
 pub spent_after-self-inside-requires : goal.spent_after-self-inside-requires
 spent_after-self-inside-requires g c =
     let laws = g.R.Rules.laws in
-    omega (arith, (prepared_is_paid g.R.Rules.table g.R.Rules.NODE_WEIGHT laws.table laws.charged laws.no_update _ _ c.self.view_is c.self.invariant c.args.event.now c.args.reply.now c.requires c.commit.new.self.state c.commit.ensures).within, ap (charge_bound g.R.Rules.NODE_WEIGHT) (c.store.ensures.network ∙ ap (λ (v : StateView). v.state.network) c.net.ensures.value))
+    omega (arith, (prepared_is_paid g.R.Rules.table g.R.Rules.NODE_WEIGHT laws.table laws.charged laws.no_update _ _ c.self.view_is c.self.invariant.budget c.args.event.now c.args.reply.now c.requires c.commit.new.self.state c.commit.ensures).within, ap (charge_bound g.R.Rules.NODE_WEIGHT) (c.store.ensures.network ∙ ap (λ (v : StateView). v.state.network) c.net.ensures.value))
 
 pub invariant_of-self : goal.invariant_of-self
 invariant_of-self g c =
     let laws = g.R.Rules.laws in
-    subst (λ n. IsWithinBudget g.R.Rules.table g.R.Rules.NODE_WEIGHT (moment c.commit.new.self.state n)) (sym c.spent_after-self-inside.ensures) (prepared_is_paid g.R.Rules.table g.R.Rules.NODE_WEIGHT laws.table laws.charged laws.no_update _ _ c.self.view_is c.self.invariant c.args.event.now c.args.reply.now c.requires c.commit.new.self.state c.commit.ensures)
+    let t = g.R.Rules.table in
+    let inside = c.self.inside in
+    let event = c.args.event.now in
+    let reply = c.args.reply.now in
+    let before : Moment = moment inside.engine.state inside.spent in
+    let told : reply ≡ reply_of t before.state before.spent event = subst (λ (n : NetView). reply ≡ reply_of t n.state n.spent event) (sym c.self.view_is) c.requires.reply_is in
+    record {
+      budget = subst (λ n. IsWithinBudget t g.R.Rules.NODE_WEIGHT (moment c.commit.new.self.state n)) (sym c.spent_after-self-inside.ensures) (prepared_is_paid t g.R.Rules.NODE_WEIGHT laws.table laws.charged laws.no_update _ _ c.self.view_is c.self.invariant.budget event reply c.requires c.commit.new.self.state c.commit.ensures);
+      counts = c.follow.ensures.counts before event c.self.invariant.budget.is_state
+          (turn_answers t laws.table before c.self.invariant.budget.is_state event reply c.commit.new.self.state told c.commit.ensures)
+          c.spent_after-self-inside.ensures c.begin.ensures.ready (c.begin.ensures.counts before.spent c.self.invariant.counts);
+    }
 
 pub returns-clause-machine : goal.returns-clause-machine
 returns-clause-machine g c =
@@ -20,4 +31,19 @@ returns-clause-machine g c =
     let reply = c.args.reply.now in
     let told : reply ≡ reply_of t c.self.inside.engine.state c.self.inside.spent event = subst (λ (n : NetView). reply ≡ reply_of t n.state n.spent event) (sym c.self.view_is) c.requires.reply_is in
     subst (λ (n : NetView). Answers t n.state n.spent event reply c.commit.new.self.state) c.self.view_is
-    (turn_answers t laws.table (moment c.self.inside.engine.state c.self.inside.spent) c.self.invariant.is_state event reply c.commit.new.self.state told c.commit.ensures)
+    (turn_answers t laws.table (moment c.self.inside.engine.state c.self.inside.spent) c.self.invariant.budget.is_state event reply c.commit.new.self.state told c.commit.ensures)
+
+pub returns-clause-counting : goal.returns-clause-counting
+returns-clause-counting g c =
+    let laws = g.R.Rules.laws in
+    let t = g.R.Rules.table in
+    let inside = c.self.inside in
+    let event = c.args.event.now in
+    let reply = c.args.reply.now in
+    let before : Moment = moment inside.engine.state inside.spent in
+    let told : reply ≡ reply_of t before.state before.spent event = subst (λ (n : NetView). reply ≡ reply_of t n.state n.spent event) (sym c.self.view_is) c.requires.reply_is in
+    c.follow.ensures.count before event c.self.invariant.budget.is_state
+    (turn_answers t laws.table before c.self.invariant.budget.is_state event reply c.commit.new.self.state told c.commit.ensures)
+    c.spent_after-self-inside.ensures c.begin.ensures.ready (c.begin.ensures.counts before.spent c.self.invariant.counts)
+    ∙ ap (next_counting t reply c.commit.new.self.state) c.begin.ensures.same
+    ∙ ap (λ (n : NetView). next_counting t reply c.commit.new.self.state n.counting) c.self.view_is

@@ -1,4 +1,4 @@
-use Rattle.rule_engine.proofs.Prelude.{◌∙◌, false, true, sym, ap, subst, arith, State, IsWithinBudget, moment, charge_bound, few_names}
+use Rattle.rule_engine.proofs.Prelude.{◌∙◌, sym, ap, subst, arith, State, IsWithinBudget, moment, charge_bound, few_names}
 use Rattle.std.specs.List.{list_any}
 use Rattle.rule_machine.specs.Base.{IsBaseMoment}
 use Rattle.rule_machine.specs.declared.base.Base.{Base}
@@ -30,7 +30,7 @@ invariant_of-result g c =
     let of_base : IsStateOf c.args.size base s = subst (IsStateOf c.args.size base) (sym c.in_ok-engine.ensures) c.in_ok-state.ensures.state in
     let fit = fit_flags t c.args.size base c.as_slice.result.now s c.has_unused_flag.result c.as_slice.ensures c.has_unused_flag.ensures c.if-has_unused_flag.false of_base in
     let begun = begins t weight c.args.size base s of_base fit (sym c.is_within.ensures.within ∙ c.if-not-is_within.false) in
-    subst (λ (u : State). IsWithinBudget t weight (moment u base.spent)) (sym c.is_within.ensures.kept) (record { is_state = begun.is_state; within = begun.within; unflagged = begun.unflagged })
+    record { budget = subst (λ (u : State). IsWithinBudget t weight (moment u base.spent)) (sym c.is_within.ensures.kept) (record { is_state = begun.is_state; within = begun.within; unflagged = begun.unflagged }); counts = tt }
 
 pub returns-clause-ok : goal.returns-clause-ok
 returns-clause-ok g c =

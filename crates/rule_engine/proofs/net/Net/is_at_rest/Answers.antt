@@ -6,4 +6,4 @@ returns-clause-idle g c rests =
     let t = g.R.Rules.table in
     let s = c.self.inside.engine.state in
     subst (λ (n : NetView). rule_at t n.state c.args.v ≡ None) c.self.view_is
-    (at_rest_idle t g.R.Rules.laws.asks s c.args.v c.self.invariant.is_state (sym c.is_at_rest.ensures ∙ rests))
+    (at_rest_idle t g.R.Rules.laws.asks s c.args.v c.self.invariant.budget.is_state (sym c.is_at_rest.ensures ∙ rests))

@@ -5,4 +5,4 @@ pub invariant_of-result : goal.invariant_of-result
 invariant_of-result g c =
     let t = g.R.Rules.table in
     let weight = g.R.Rules.NODE_WEIGHT in
-    subst (λ (s : State). IsWithinBudget t weight (moment s c.args.spent)) (sym c.in_ok-engine.ensures) (record { is_state = c.registers.ensures.sound; within = c.requires.within; unflagged = c.requires.unflagged })
+    record { budget = subst (λ (s : State). IsWithinBudget t weight (moment s c.args.spent)) (sym c.in_ok-engine.ensures) (record { is_state = c.registers.ensures.sound; within = c.requires.within; unflagged = c.requires.unflagged }); counts = tt }

@@ -7,4 +7,4 @@ invariant_of-result g c =
     let laws = g.R.Rules.laws in
     let t = g.R.Rules.table in
     let weight = g.R.Rules.NODE_WEIGHT in
-    subst (λ (s : State). IsWithinBudget t weight (moment s 0)) (sym c.in_ok-engine.ensures.ok) (beginning_is_paid t weight laws.charged c.args.nodes c.args.present)
+    record { budget = subst (λ (s : State). IsWithinBudget t weight (moment s 0)) (sym c.in_ok-engine.ensures.ok) (beginning_is_paid t weight laws.charged c.args.nodes c.args.present); counts = tt }

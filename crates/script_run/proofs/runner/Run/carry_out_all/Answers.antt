@@ -35,7 +35,7 @@ returns-in_default-read_on-clause-whole g c _ = Came-whole (Came-handed c.loop-r
 pub returns-then-len-eq0-clause-outcome : goal.returns-then-len-eq0-clause-outcome
 returns-then-len-eq0-clause-outcome g c =
     let bytes = c.in-Ok-read_on.ensures in
-    Came-last (Came-handed c.loop-reading.invariant.stands c.in_ok-hand_over_all.ensures.ok) (g.In.Read.remaining c.read_on.new.reader.reader) c.in-Ok-read_on.len c.read_on.new.chunk c.carry_out_last.new.self.line.text.items c.carry_out_last.result bytes.bytes bytes.end c.if-len-eq0.true c.loop-reading.invariant.limit c.carry_out_last.ensures.last
+    Came-last (Came-handed c.loop-reading.invariant.stands c.in_ok-hand_over_all.ensures.ok) (g.Out.Write.contents c.carry_out_last.new.writer.writer) (g.In.Read.remaining c.read_on.new.reader.reader) c.in-Ok-read_on.len c.read_on.new.chunk c.carry_out_last.new.self.line.text.items c.carry_out_last.result bytes.bytes bytes.end c.if-len-eq0.true c.loop-reading.invariant.limit c.carry_out_last.ensures.last
 
 pub returns-in_err-carry_out_piece-clause-outcome : goal.returns-in_err-carry_out_piece-clause-outcome
 returns-in_err-carry_out_piece-clause-outcome g c =

@@ -1,18 +1,20 @@
-use Rattle.script_run.proofs.Prelude.{◌≡◌, ◌∙◌, ◌+◌, [], length, refl, ap, arith, returned}
-use Rattle.script_run.proofs.RunProgress.{moved_on, never_read, never_written, wrote_not_read, Stands-line, Stands-handed, Stands-stopped, Stands-memory, Stands-long, PieceEnds-failed}
+use Rattle.script_run.proofs.Prelude.{◌≡◌, ◌∙◌, ◌+◌, [], length, refl, sym, ap, arith, returned}
+use Rattle.script_run.proofs.RunProgress.{moved_on, never_read, wrote_not_read, Stands-line, Stands-handed, Stands-stopped, Stands-memory, Stands-long, PieceEnds-failed}
 use Rattle.script_run.proofs.runner.Run.carry_out_piece.Goals as goal
 
 pub returns-in_err-carry_out_ended-clause-piece : goal.returns-in_err-carry_out_ended-clause-piece
 returns-in_err-carry_out_ended-clause-piece g c start old read h =
     let found = c.in-Some.ensures.line in
-    Stands-stopped _ _ _ _ _ _ c.carry_out_ended.result c.from_residual.result (c.loop-end.invariant.stands start old read h) found.0 found.1 c.loop-end.invariant.limit c.carry_out_ended.ensures.ends
+    Stands-stopped _ _ _ _ _ _ _ c.carry_out_ended.result c.from_residual.result (c.loop-end.invariant.stands start old read h) found.0 found.1 c.loop-end.invariant.limit c.carry_out_ended.ensures.ends
     c.in_err-carry_out_ended.was (returned _ _ c.from_residual.ensures.1)
 
 pub returns-in_err-carry_out_ended-clause-reads : goal.returns-in_err-carry_out_ended-clause-reads
-returns-in_err-carry_out_ended-clause-reads g c = never_read _ c.from_residual.result (returned _ _ c.from_residual.ensures.1)
+returns-in_err-carry_out_ended-clause-reads g c =
+    never_read _ _ _ _ _ _ _ _ _ c.carry_out_ended.result c.from_residual.result c.carry_out_ended.ensures.ends c.in_err-carry_out_ended.was (returned _ _ c.from_residual.ensures.1)
 
 pub returns-in_err-carry_out_ended-clause-unwritten : goal.returns-in_err-carry_out_ended-clause-unwritten
-returns-in_err-carry_out_ended-clause-unwritten g c same = absurd (never_written _ c.from_residual.result (returned _ _ c.from_residual.ensures.1) same)
+returns-in_err-carry_out_ended-clause-unwritten g c same =
+    c.carry_out_ended.ensures.unwritten (c.in_err-carry_out_ended.was ∙ sym (returned _ _ c.from_residual.ensures.1) ∙ same)
 
 pub returns-in_err-hand_over-clause-piece : goal.returns-in_err-hand_over-clause-piece
 returns-in_err-hand_over-clause-piece g c start old read h =

@@ -2,6 +2,7 @@ use Rattle.step_log.proofs.Prelude.{◌≤◌, ◌∙◌, List, Some, ap, ap₂,
 use Rattle.rule_machine.specs.Network.{Network}
 use Rattle.rule_engine.specs.EventReplies.{IsWithinBudget}
 use Rattle.rule_engine.specs.PreparedEvents.{NetView}
+use Rattle.step_log.proofs.KeptRounds.{counted_before}
 use Rattle.step_log.proofs.BaseStarts.{resumed_is_journal}
 use Rattle.step_log.proofs.journal.Journal.of_net.Goals as goal
 
@@ -19,8 +20,9 @@ invariant_of-result g c =
     let small : there.state.network.size ≤ 65535 = omega (arith, names, c.capacity.ensures.few) in
     let made = c.in_ok-base.ensures.base in
     let short : IsBaseOfGraph (Some (base_of number there)) = subst (λ (b : Base). IsBaseOfGraph (Some b)) made c.in_ok-base.ensures.few in
-    let budget = subst (λ (n : NetView). IsWithinBudget t weight (record { state = n.state; spent = n.spent })) c.net.view_is c.net.invariant in
+    let budget = subst (λ (n : NetView). IsWithinBudget t weight (record { state = n.state; spent = n.spent })) c.net.view_is c.net.invariant.budget in
     let over = c.new-2.result.over.items in
     let begun = resumed_is_journal t weight number limit present there budget small short room most over c.new-2.ensures.over in
-    subst (λ (e : EpochStart). IsJournal t weight (record { state = there.state; spent = there.spent; base = Some c.in_ok-base.base; entries = c.new.result.items; limit = limit; present = present }) over e) (sym c.new-2.ensures.begun)
-    (subst (λ (k : RetainedLog). IsJournal t weight k over Forgotten) (sym (ap₂ (λ (b : Base) (es : List Entry). record { state = there.state; spent = there.spent; base = Some b; entries = es; limit = limit; present = present }) made c.new.ensures.items)) begun)
+    counted_before t weight _ _ _ _ c.new.ensures.items
+    (subst (λ (e : EpochStart). IsJournal t weight (record { state = there.state; spent = there.spent; base = Some c.in_ok-base.base; entries = c.new.result.items; limit = limit; present = present }) over e) (sym c.new-2.ensures.begun)
+    (subst (λ (k : RetainedLog). IsJournal t weight k over Forgotten) (sym (ap₂ (λ (b : Base) (es : List Entry). record { state = there.state; spent = there.spent; base = Some b; entries = es; limit = limit; present = present }) made c.new.ensures.items)) begun))

@@ -5,7 +5,7 @@ use Rattle.step_log.proofs.journal.Journal.prepare.Goals as goal
 pub new-requires : goal.new-requires
 new-requires g c =
     let laws = g.R.Rules.laws in
-    ap (fits c.args.event) c.in_ok-reply.ensures.reply ∙ next_fits g.R.Rules.table g.R.Rules.NODE_WEIGHT laws.table _ c.self.invariant.is_kept c.args.event
+    ap (fits c.args.event) c.in_ok-reply.ensures.reply ∙ next_fits g.R.Rules.table g.R.Rules.NODE_WEIGHT laws.table _ c.self.invariant.journal.is_kept c.args.event
 
 pub returns-clause-receipt : goal.returns-clause-receipt
 returns-clause-receipt g c =

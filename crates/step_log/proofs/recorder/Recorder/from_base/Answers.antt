@@ -8,7 +8,7 @@ returns-clause-recording g c =
     let net = c.in_ok-net.net in
     let there : Moment = record { state = net.state; spent = net.spent } in
     let most : c.min-limit.result ≡ min c.args.limit max_entries = grind (arith, c.min-limit.ensures) in
-    recording_is net.state c.args.base.now c.min-limit.result (min c.args.limit max_entries) net.spent c.as_slice.result.now (spent_is g.R.Rules.table (charge_bound g.R.Rules.NODE_WEIGHT) c.args.size c.args.base.now there c.in_ok-net.ensures.ok) most c.as_slice.ensures
+    recording_is net.state c.args.base.now c.min-limit.result (min c.args.limit max_entries) net.spent c.as_slice.result.now net.counting (spent_is g.R.Rules.table (charge_bound g.R.Rules.NODE_WEIGHT) c.args.size c.args.base.now there c.in_ok-net.ensures.ok) most c.as_slice.ensures c.in_ok-net.ensures.uncounted
 
 pub returns-clause-begins : goal.returns-clause-begins
 returns-clause-begins g c =

@@ -1,0 +1,5 @@
+pub mod Prelude
+pub mod Local
+pub mod Apart
+pub mod Unhit
+pub mod Sets

@@ -1,0 +1,112 @@
+//! The count.
+
+ghost use Rattle.std.specs.Prelude.{◌≡◌, ◌+◌, false, length, IsTrue, List};
+ghost use Rattle.enabled_set.specs.Members.{members};
+ghost use Rattle.rule_machine.specs.Run.{Entry};
+ghost use Rattle.rule_machine.specs.RuleTable.{RuleTable, enabled_names};
+ghost use Rattle.rule_machine.specs.State.{State};
+ghost use Rattle.round_counter.specs.Counting.{HasCounted, is_step};
+
+use crate::around::mark_affected;
+use crate::looks::look_again;
+use enabled_set::{EnabledSet, Marks};
+use reply_checker::Judge;
+use round_counter::RoundCounter;
+use rule_machine::{Event, Reply, RuleSet, Want};
+use std::alloc::Global;
+
+/// How many rounds are complete in a run that a judge follows, and which nodes are enabled.
+///
+/// A name is due from the call before an entry, which may enable or disable a rule there, to the call after it.
+#[derive(Drop)]
+pub struct JudgedRounds {
+    rules: RuleSet,
+    size: u32,
+    enabled: EnabledSet,
+    due: Marks,
+    counter: RoundCounter,
+    ghost places: { length enabled ≡ size + 1 },
+    ghost due_places: { length due ≡ size + 1 },
+}
+
+/// Lists the pending nodes before a step.
+fn begin(counter: &mut RoundCounter, enabled: &EnabledSet, reply: &Reply)
+    ensures ready { IsTrue (is_step reply.now) → counter.new.is_new ≡ false }
+    ensures rounds { counter.new.rounds ≡ counter.old.rounds }
+    ensures counted { (t : RuleTable) (start : State) (log : List Entry) (s : State) → members enabled.now ≡ enabled_names t s
+        → HasCounted t start log s counter.old → HasCounted t start log s counter.new }
+{
+    if let Reply::Moves(_) = reply {
+        counter.begin_step(enabled);
+    }
+}
+
+impl JudgedRounds {
+    ghost use Rattle.std.specs.Prelude.{◌≡◌, ◌<◌, ◌≤◌, ◌+◌, cond, [], List, IfOk};
+    ghost use Rattle.rule_machine.specs.declared.event.Event.{Event};
+    ghost use Rattle.rule_machine.specs.Run.{Entry};
+    ghost use Rattle.rule_machine.specs.State.{State};
+    ghost use Rattle.machine_laws.specs.StatesAfterReplies.{followed};
+    ghost use Rattle.round_counter.specs.Counting.{is_step, start_after, log_after};
+    ghost use Rattle.judged_rounds.specs.Following.{CountsIn, IsReadyFor};
+
+    /// A count by these rules that begins in the judge's state, with no complete round.
+    ///
+    /// Cost: a look at each name. Takes some nine kilobytes and four bytes a name. Error: out of memory.
+    pub fn new(alloc: Global, rules: RuleSet, judge: &Judge) -> Result<JudgedRounds, Want>
+        ensures rules { IfOk result (λ it. it.rules ≡ rules) }
+        ensures rounds { IfOk result (λ it. it.counter.rounds ≡ 0) }
+        ensures counts { IfOk result (CountsIn judge.now [] judge.now) }
+    {
+        let size = judge.capacity();
+        let mut enabled = EnabledSet::new(alloc, size)?;
+        let mut due = Marks::new(alloc, size)?;
+        due.mark_all();
+        let counter = RoundCounter::new(alloc)?;
+        // Gives the prover `IsState`.
+        let _ = judge.store();
+        look_again(&mut enabled, &mut due, judge, rules);
+        Ok(JudgedRounds {
+            rules,
+            size,
+            enabled,
+            due,
+            counter,
+        })
+    }
+
+    /// The complete rounds since the last accepted disturbance, or since counting began. Constant time.
+    pub fn rounds(&self) -> u32
+        ensures { result ≡ self.now.counter.rounds }
+    {
+        self.counter.rounds()
+    }
+
+    /// Marks the names whose rules an event with this reply may enable or disable.
+    ///
+    /// Call it before the judge carries the event out. Cost: a look at each node that the entry changes and at
+    /// each of its neighbours; for a node that leaves, also at the neighbours of each node that points at it. At
+    /// a round's beginning, a few looks at each enabled node.
+    pub fn prepare(&mut self, judge: &Judge, event: &Event, reply: &Reply)
+        ensures rules { self.new.rules ≡ self.old.rules }
+        ensures rounds { self.new.counter.rounds ≡ self.old.counter.rounds }
+        ensures ready { (start : State) (log : List Entry) → CountsIn start log judge.now self.old → IsReadyFor start log judge.now event.now reply.now self.new }
+    {
+        begin(&mut self.counter, &self.enabled, reply);
+        mark_affected(&mut self.due, self.size, judge, event, reply);
+    }
+
+    /// Counts an entry that `prepare` was called with, after the judge carried it out.
+    ///
+    /// Cost: for each marked name, looks at its neighbours up to the first that decides whether a rule is
+    /// enabled; for a step, a look or two at each mover and each of its neighbours.
+    pub fn follow(&mut self, judge: &Judge, reply: &Reply)
+        ensures rules { self.new.rules ≡ self.old.rules }
+        ensures few { self.new.counter.rounds ≤ self.old.counter.rounds + cond (is_step reply.now) 1 0 }
+        ensures counts { (start : State) (log : List Entry) (s : State) (event : Event) → IsReadyFor start log s event reply.now self.old → judge.now ≡ followed s event reply.now → self.old.counter.rounds < 4294967295
+            → CountsIn (start_after start reply.now judge.now) (log_after log event reply.now) judge.now self.new }
+    {
+        look_again(&mut self.enabled, &mut self.due, judge, self.rules);
+        self.counter.follow(reply, judge.store(), &self.enabled);
+    }
+}

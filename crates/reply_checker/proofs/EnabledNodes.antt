@@ -1,0 +1,42 @@
+-- Whether a rule is enabled at a node with a null pointer: one look at its neighbours decides.
+use Rattle.reply_checker.proofs.Prelude.{◌≡◌, ℕ, Bool, true, false, cond, not, ◌&&◌, ◌||◌, List, [], ◌∷◌, find, Option, None, Some, is_some, is_none, nat_le, ap, ◌∙◌, refl, sym, arith, list_any, neighbours, State, pointer, points, flag, married, suits, has_suitor, holds_at, is_open, rule_at, hsu_huang, hsu_huang_opens, manne, may_court, Act, Update, Marry, Seduce, Abandon}
+
+one_of_both : (p q : ℕ → Bool) (xs : List ℕ) → list_any (λ w. p w || q w) xs ≡ (is_some (find p xs) || is_some (find q xs))
+one_of_both p q [] = refl
+one_of_both p q (x ∷ xs) = let rest = one_of_both p q xs in grind arith
+
+pub hsu_huang_null : (s : State) (v : ℕ) → pointer s v ≡ None → list_any (λ w. suits s v w || is_none (pointer s w)) (neighbours s.network v) ≡ is_some (rule_at hsu_huang s v)
+hsu_huang_null s v null =
+    one_of_both (suits s v) (λ w. is_none (pointer s w)) (neighbours s.network v)
+    ∙ by (has_suitor s v) (is_some (find (is_open hsu_huang_opens s) (neighbours s.network v)))
+    ∙ ap (λ o. is_some (rule o (has_suitor s v) (is_some (find (is_open hsu_huang_opens s) (neighbours s.network v))))) (sym null)
+  where
+    rule : Option ℕ → Bool → Bool → Option Act
+    rule o suitor reach = cond (is_none o && suitor) (Some Marry) (cond (is_none o && not suitor && reach) (Some Seduce) (cond (holds_at (λ w. is_some (pointer s w) && not (points s.registers w v)) o) (Some Abandon) None))
+
+    by : (suitor reach : Bool) → (suitor || reach) ≡ is_some (rule None suitor reach)
+    by true reach = refl
+    by false true = refl
+    by false false = refl
+
+pub manne_null : (s : State) (v : ℕ) → flag s v ≡ married s v → pointer s v ≡ None → list_any (λ w. suits s v w || may_court s v w) (neighbours s.network v) ≡ is_some (rule_at manne s v)
+manne_null s v right null =
+    one_of_both (suits s v) (may_court s v) (neighbours s.network v)
+    ∙ by (has_suitor s v) (is_some (find (may_court s v) (neighbours s.network v)))
+    ∙ ap (λ o. is_some (rule true o (has_suitor s v) (is_some (find (may_court s v) (neighbours s.network v))))) (sym null)
+    ∙ ap (λ b. is_some (rule b (pointer s v) (has_suitor s v) (is_some (find (may_court s v) (neighbours s.network v))))) (sym (settled (married s v) (flag s v) right))
+  where
+    settled : (married flag : Bool) → flag ≡ married → cond married flag (not flag) ≡ true
+    settled married flag h = grind arith
+
+    rule : Bool → Option ℕ → Bool → Bool → Option Act
+    rule settled o suitor court =
+        cond (not settled) (Some Update)
+        (cond (settled && is_none o && suitor) (Some Marry)
+        (cond (settled && is_none o && not suitor && court) (Some Seduce)
+        (cond (settled && holds_at (λ w. not (points s.registers w v) && (flag s w || nat_le w v)) o) (Some Abandon) None)))
+
+    by : (suitor court : Bool) → (suitor || court) ≡ is_some (rule true None suitor court)
+    by true court = refl
+    by false true = refl
+    by false false = refl

@@ -1,4 +1,0 @@
-use Rattle.step_log.proofs.rounds.begin.Goals as goal
-
-pub returns-in-Moves-clause-ready : goal.returns-in-Moves-clause-ready
-returns-in-Moves-clause-ready g c = c.begin_step.ensures.ready c.args.reply.now
