@@ -35,7 +35,7 @@ unfolding lists_of
 long_same heads pool long long' same = ap (λ (l : List (List ℕ)). map (λ v. cond (is_long (head_at heads v)) (row_at l v) (names_at pool (head_at heads v).start (head_at heads v).len)) (range_with_len 0 (length heads))) same
 
 -- a vector that has grown has room
-pub long_room_made : (heads : List Head) (long : List (Vec ℕ Global)) (v : ℕ) (h : Head) (x : Vec ℕ Global) → IsHead heads v h → 64 < h.len → v < length long → vec_len x + 12 ≤ vec_capacity x → 0 < get_or (rooms_of heads (set long v x)) v 0
+pub long_room_made : (heads : List Head) (long : List (Vec ℕ Global)) (v : ℕ) (h : Head) (x : Vec ℕ Global) → IsHead heads v h → 64 < h.len → v < length long → vec_len x + 1 ≤ vec_capacity x → 0 < get_or (rooms_of heads (set long v x)) v 0
 long_room_made heads long v h x head many owned room =
     let read = room_read heads (set long v x) v head.inside in
     let is = long_room (set long v x) h v many in

@@ -2,6 +2,7 @@
 
 ghost use Rattle.std.specs.Prelude.{◌≡◌, ◌≢◌, ℕ, ◌+◌, ◌-◌, ◌<◌, ◌≤◌, length, OnOk};
 ghost use Rattle.std.specs.List.{insert, remove};
+ghost use Rattle.std.specs.Vec.{vec_len, vec_capacity};
 ghost use Rattle.graph_store.specs.Rows.{contents, row_at};
 ghost use Rattle.graph_store.specs.RowPools.{names_at, spare_at, AreDisjointParts};
 
@@ -9,8 +10,8 @@ use crate::rows::{drop_first, put_first};
 use rule_machine::{Node, Want};
 use std::alloc::Global;
 
-// By how many names a full vector grows.
-pub const MORE: usize = 12;
+// By how many names a full vector grows, beside a quarter of its length.
+const MORE: usize = 12;
 
 /// The `len` names of a pool from `start` on.
 #[inline(always)]
@@ -70,6 +71,22 @@ fn add_empty(long: &mut Vec<Vec<Node>>, alloc: Global, count: usize) -> Result<(
         long.push(Vec::new(alloc))?;
     }
     Ok(())
+}
+
+/// Makes room for one more name in a row's vector. Error: out of memory.
+///
+/// A full vector grows by a quarter of its length: if it doubled, it would be a third empty in the mean.
+pub fn add_room(names: &mut Vec<Node>) -> Result<(), Want>
+    ensures items { names.new.items ≡ names.old.items }
+    ensures len { vec_len names.new ≡ vec_len names.old }
+    ensures capacity { vec_capacity names.old ≤ vec_capacity names.new }
+    ensures ok { OnOk result (vec_len names.new + 1 ≤ vec_capacity names.new) }
+{
+    let len = names.len();
+    if len < names.capacity() {
+        return Ok(());
+    }
+    names.reserve_exact(MORE.saturating_add(len / 4))
 }
 
 /// Gives the row at `place` a vector of its own, with room for further names.

@@ -5,7 +5,7 @@ ghost use Rattle.std.specs.List.{insert, remove};
 ghost use Rattle.graph_store.specs.Graph.{HasRoomFor};
 ghost use Rattle.graph_store.specs.Rows.{pairs_from, put_both, row_at, take_both};
 
-use crate::blocks::{MORE, add_block, add_long, names_in, put_name, take_name};
+use crate::blocks::{add_block, add_long, add_room, names_in, put_name, take_name};
 use crate::rows::{put_at, take_at};
 use rule_machine::{Edge, Node, Want};
 use std::alloc::Global;
@@ -120,7 +120,7 @@ impl Rows {
         let head = self.heads[place];
         let len = usize::from(head.len);
         if head.len > MOST_NAMES {
-            return self.long[place].reserve(MORE);
+            return add_room(&mut self.long[place]);
         }
         let from = head.start as usize;
         let end = self.pool.len();

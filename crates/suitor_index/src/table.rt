@@ -60,9 +60,26 @@ pub(crate) fn close_at(tallies: &mut [Tally], w: Node)
     tallies[w.place()].reached -= 1;
 }
 
+/// The tally of a node for which one neighbour `was` open and `is` open.
+#[inline(always)]
+fn turned(tally: Tally, was: bool, is: bool) -> Tally
+    requires { CanTurn was is tally }
+    ensures count { result.reached + cond was 1 0 ≡ tally.reached + cond is 1 0 }
+    ensures rest { result ≡ record tally { reached = result.reached } }
+{
+    let mut tally = tally;
+    match (was, is) {
+        (false, true) => tally.reached += 1,
+        (true, false) => tally.reached -= 1,
+        _ => {}
+    }
+    tally
+}
+
 /// Updates the count of `w` for one neighbour: whether that neighbour `was` open and `is` open.
 ///
-/// Returns whether `w` then points nowhere and counts no open node but that neighbour.
+/// Returns whether `w` then points nowhere and counts no open node but that neighbour. Reads the tally
+/// once, before the write: a read of all of it right after a write of a part waits for that write.
 #[inline(always)]
 fn turn_at(tallies: &mut [Tally], w: Node, was: bool, is: bool) -> bool
     requires within { w < length tallies.old }
@@ -70,12 +87,9 @@ fn turn_at(tallies: &mut [Tally], w: Node, was: bool, is: bool) -> bool
     ensures turned { IsTurned (λ k. nat_eq k w) was is tallies.old tallies.new }
     ensures alone { result ≡ is_null_with_none_but is (tally_of tallies.new w) }
 {
-    match (was, is) {
-        (false, true) => open_at(tallies, w),
-        (true, false) => close_at(tallies, w),
-        _ => {}
-    }
-    tallies[w.place()].is_null_with_none_but(is)
+    let tally = turned(tallies[w.place()], was, is);
+    tallies[w.place()] = tally;
+    tally.is_null_with_none_but(is)
 }
 
 /// Updates the count of each of the ascending `nodes` whose guard asks for `v`.

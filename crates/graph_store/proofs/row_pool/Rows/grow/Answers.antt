@@ -25,8 +25,8 @@ returns-then-head-gt-MOST_NAMES-clause-lists c =
     let s = c.self.inside in
     let seen = ap (λ (r : RowLists). r.lists) c.self.view_is in
     let head = head_read s.heads.items s.pool.items s.long.items c.args.self.now.lists c.index-head.result.now c.place-place.result c.args.node seen c.requires c.place-place.ensures.same c.index-head.ensures in
-    long_same s.heads.items s.pool.items s.long.items (set s.long.items c.place-place.result c.reserve.new.self)
-    (contents_kept s.long.items c.place-place.result c.index_mut.result.now c.reserve.new.self (c.reserve.ensures.items ∙ ap (λ (x : Vec ℕ Global). x.items) c.index_mut.ensures.value))
+    long_same s.heads.items s.pool.items s.long.items (set s.long.items c.place-place.result c.add_room.new.names)
+    (contents_kept s.long.items c.place-place.result c.index_mut.result.now c.add_room.new.names (c.add_room.ensures.items ∙ ap (λ (x : Vec ℕ Global). x.items) c.index_mut.ensures.value))
     ∙ seen
 
 pub returns-then-head-gt-MOST_NAMES-clause-room : goal.returns-then-head-gt-MOST_NAMES-clause-room
@@ -35,11 +35,11 @@ returns-then-head-gt-MOST_NAMES-clause-room c =
     let seen = ap (λ (r : RowLists). r.lists) c.self.view_is in
     let head = head_read s.heads.items s.pool.items s.long.items c.args.self.now.lists c.index-head.result.now c.place-place.result c.args.node seen c.requires c.place-place.ensures.same c.index-head.ensures in
     let owned = head_owned s.heads.items s.pool.items s.long.items c.args.node c.index-head.result.now c.self.invariant head c.if-head-gt-MOST_NAMES.true in
-    on_ok_weaker _ (0 < get_or (rooms_of s.heads.items (set s.long.items c.place-place.result c.reserve.new.self)) c.args.node 0) c.reserve.result
-    (λ (room : vec_len c.reserve.new.self + 12 ≤ vec_capacity c.reserve.new.self).
-    subst (λ p. 0 < get_or (rooms_of s.heads.items (set s.long.items p c.reserve.new.self)) c.args.node 0) (sym c.place-place.ensures.same)
-    (long_room_made s.heads.items s.long.items c.args.node c.index-head.result.now c.reserve.new.self head c.if-head-gt-MOST_NAMES.true owned room))
-    c.reserve.ensures.ok
+    on_ok_weaker _ (0 < get_or (rooms_of s.heads.items (set s.long.items c.place-place.result c.add_room.new.names)) c.args.node 0) c.add_room.result
+    (λ (room : vec_len c.add_room.new.names + 1 ≤ vec_capacity c.add_room.new.names).
+    subst (λ p. 0 < get_or (rooms_of s.heads.items (set s.long.items p c.add_room.new.names)) c.args.node 0) (sym c.place-place.ensures.same)
+    (long_room_made s.heads.items s.long.items c.args.node c.index-head.result.now c.add_room.new.names head c.if-head-gt-MOST_NAMES.true owned room))
+    c.add_room.ensures.ok
 
 pub returns-then-head-gt-MOST_NAMES-clause-others : goal.returns-then-head-gt-MOST_NAMES-clause-others
 returns-then-head-gt-MOST_NAMES-clause-others c v some =
@@ -48,8 +48,8 @@ returns-then-head-gt-MOST_NAMES-clause-others c v some =
     let head = head_read s.heads.items s.pool.items s.long.items c.args.self.now.lists c.index-head.result.now c.place-place.result c.args.node seen c.requires c.place-place.ensures.same c.index-head.ensures in
     let owned = head_owned s.heads.items s.pool.items s.long.items c.args.node c.index-head.result.now c.self.invariant head c.if-head-gt-MOST_NAMES.true in
     let read : c.index_mut.result.now ≡ get_or s.long.items c.args.node c.index_mut.result.now = c.index_mut.ensures.value ∙ ap (λ k. get_or s.long.items k c.index_mut.result.now) c.place-place.ensures.same in
-    subst (λ p. 0 < get_or (rooms_of s.heads.items (set s.long.items p c.reserve.new.self)) v 0) (sym c.place-place.ensures.same)
-    (long_room_kept s.heads.items s.pool.items s.long.items c.args.node c.index_mut.result.now c.reserve.new.self c.self.invariant owned (c.reserve.ensures.len ∙ ap (λ (x : Vec ℕ Global). vec_len x) read) (subst (λ (x : Vec ℕ Global). vec_capacity x ≤ vec_capacity c.reserve.new.self) read c.reserve.ensures.capacity) v (subst (λ l. 0 < get_or l v 0) (sym (ap (λ (r : RowLists). r.room) c.self.view_is)) some))
+    subst (λ p. 0 < get_or (rooms_of s.heads.items (set s.long.items p c.add_room.new.names)) v 0) (sym c.place-place.ensures.same)
+    (long_room_kept s.heads.items s.pool.items s.long.items c.args.node c.index_mut.result.now c.add_room.new.names c.self.invariant owned (c.add_room.ensures.len ∙ ap (λ (x : Vec ℕ Global). vec_len x) read) (subst (λ (x : Vec ℕ Global). vec_capacity x ≤ vec_capacity c.add_room.new.names) read c.add_room.ensures.capacity) v (subst (λ l. 0 < get_or l v 0) (sym (ap (λ (r : RowLists). r.room) c.self.view_is)) some))
 
 pub add_block-requires-clause-inside : goal.add_block-requires-clause-inside
 add_block-requires-clause-inside c =
