@@ -1,6 +1,6 @@
 //! Updates of a table of tallies, one for each name, when one node changes.
 
-ghost use Rattle.std.specs.Prelude.{◌≡◌, ℕ, ◌<◌, ◌≤◌, ◌&&◌, false, not, true, IfSome, length, nat_eq};
+ghost use Rattle.std.specs.Prelude.{◌≡◌, ℕ, ◌+◌, ◌<◌, ◌≤◌, ◌&&◌, cond, false, not, true, IfSome, length, nat_eq};
 ghost use Rattle.std.specs.Bool.{beq};
 ghost use Rattle.std.specs.List.{list_any};
 ghost use Rattle.std.specs.List.Sorted.{IsStrictlyIncreasing};
@@ -19,8 +19,10 @@ pub(crate) fn leave(tallies: &mut [Tally], pointer: Option<Node>, v: Node)
     ensures { AddsSuitor pointer v tallies.new tallies.old }
 {
     if let Some(w) = pointer {
-        tallies[w.place()].suitors -= 1;
-        tallies[w.place()].sum = tallies[w.place()].sum.wrapping_sub(v.name() as u16);
+        let mut tally = tallies[w.place()];
+        tally.suitors -= 1;
+        tally.sum = tally.sum.wrapping_sub(v.name() as u16);
+        tallies[w.place()] = tally;
     }
 }
 
@@ -31,8 +33,10 @@ pub(crate) fn court(tallies: &mut [Tally], pointer: Option<Node>, v: Node)
     ensures { AddsSuitor pointer v tallies.old tallies.new }
 {
     if let Some(w) = pointer {
-        tallies[w.place()].suitors += 1;
-        tallies[w.place()].sum = tallies[w.place()].sum.wrapping_add(v.name() as u16);
+        let mut tally = tallies[w.place()];
+        tally.suitors += 1;
+        tally.sum = tally.sum.wrapping_add(v.name() as u16);
+        tallies[w.place()] = tally;
     }
 }
 
@@ -41,7 +45,9 @@ pub(crate) fn aim(tallies: &mut [Tally], v: Node, target: Option<Node>)
     requires within { v < length tallies.old }
     ensures { IsAimed v target tallies.old tallies.new }
 {
-    tallies[v.place()].pointer = Pointer::new(target);
+    let mut tally = tallies[v.place()];
+    tally.pointer = Pointer::new(target);
+    tallies[v.place()] = tally;
 }
 
 pub(crate) fn open_at(tallies: &mut [Tally], w: Node)
@@ -49,7 +55,9 @@ pub(crate) fn open_at(tallies: &mut [Tally], w: Node)
     requires room { (tally_of tallies.old w).reached < 65535 }
     ensures { IsOpenTo (λ k. nat_eq k w) tallies.old tallies.new }
 {
-    tallies[w.place()].reached += 1;
+    let mut tally = tallies[w.place()];
+    tally.reached += 1;
+    tallies[w.place()] = tally;
 }
 
 pub(crate) fn close_at(tallies: &mut [Tally], w: Node)
@@ -57,7 +65,9 @@ pub(crate) fn close_at(tallies: &mut [Tally], w: Node)
     requires counted { 1 ≤ (tally_of tallies.old w).reached }
     ensures { IsOpenTo (λ k. nat_eq k w) tallies.new tallies.old }
 {
-    tallies[w.place()].reached -= 1;
+    let mut tally = tallies[w.place()];
+    tally.reached -= 1;
+    tallies[w.place()] = tally;
 }
 
 /// The tally of a node for which one neighbour `was` open and `is` open.
@@ -79,7 +89,7 @@ fn turned(tally: Tally, was: bool, is: bool) -> Tally
 /// Updates the count of `w` for one neighbour: whether that neighbour `was` open and `is` open.
 ///
 /// Returns whether `w` then points nowhere and counts no open node but that neighbour. Reads the tally
-/// once, before the write: a read of all of it right after a write of a part waits for that write.
+/// before the write alone: a read of all of it right after a write of a part waits for that write.
 #[inline(always)]
 fn turn_at(tallies: &mut [Tally], w: Node, was: bool, is: bool) -> bool
     requires within { w < length tallies.old }
@@ -88,7 +98,8 @@ fn turn_at(tallies: &mut [Tally], w: Node, was: bool, is: bool) -> bool
     ensures alone { result ≡ is_null_with_none_but is (tally_of tallies.new w) }
 {
     let tally = turned(tallies[w.place()], was, is);
-    tallies[w.place()] = tally;
+    let written = tally;
+    tallies[w.place()] = written;
     tally.is_null_with_none_but(is)
 }
 
