@@ -41,13 +41,14 @@ fn append_header(out: &mut Vec<u8>, rules: RuleSet, size: u32, count: u32) -> Re
     out.extend_from_slice(b"\n")
 }
 
-fn append_answer(out: &mut Vec<u8>, reply: &Reply) -> Result<(), Want>
+// Not inlined: most replies are `ok`, and that path then saves no registers for this one.
+#[inline(never)]
+fn append_other_answer(out: &mut Vec<u8>, reply: &Reply) -> Result<(), Want>
     ensures ok { OnOk result (out.new.items ≡ out.old.items ++ (codes " = " ++ reply_text reply.now ++ 10 ∷ [])) }
     ensures err { OnErr result (Extends out.old.items out.new.items) }
     ensures named { OnOk result (IsReply reply.now) }
 {
     match reply {
-        Reply::Accepted => out.extend_from_slice(b" = ok\n"),
         Reply::Shown(None) => out.extend_from_slice(b" = -\n"),
         Reply::Shown(Some(node)) => {
             out.extend_from_slice(b" = ")?;
@@ -59,6 +60,18 @@ fn append_answer(out: &mut Vec<u8>, reply: &Reply) -> Result<(), Want>
             out.push(b'\n')?;
             Ok(())
         }
+    }
+}
+
+#[inline(always)]
+fn append_answer(out: &mut Vec<u8>, reply: &Reply) -> Result<(), Want>
+    ensures ok { OnOk result (out.new.items ≡ out.old.items ++ (codes " = " ++ reply_text reply.now ++ 10 ∷ [])) }
+    ensures err { OnErr result (Extends out.old.items out.new.items) }
+    ensures named { OnOk result (IsReply reply.now) }
+{
+    match reply {
+        Reply::Accepted => out.extend_from_slice(b" = ok\n"),
+        _ => append_other_answer(out, reply),
     }
 }
 

@@ -1,5 +1,5 @@
 -- If no entry is alone, no neighbour's guard turned.
-use Rattle.suitor_index.proofs.Prelude.{◌≡◌, ℕ, Bool, true, false, not, beq, ◌&&◌, List, Option, is_none, nat_eq, nat_le, IsTrue, sym, ap, ap₂, ◌∙◌, count_by, list_any, and_parts, false_from_ne_true, true≢false, linked, neighbours, linked_back, linked_present, State, Registers, pointer, is_open, asks_for, is_reached, Tally, one_if, tally_of, HasNoneAlone, IsIndexed, is_null_with_none_but, may_turn, turns_with, TurnsNoneWith}
+use Rattle.suitor_index.proofs.Prelude.{◌≡◌, ℕ, Bool, true, not, beq, ◌&&◌, List, Option, is_none, nat_eq, nat_le, IsTrue, sym, ap, ap₂, ◌∙◌, count_by, list_any, and_parts, false_from_ne_true, true≢false, linked, neighbours, linked_back, linked_present, State, Registers, pointer, is_open, asks_for, is_reached, Tally, one_if, tally_of, HasNoneAlone, IsIndexed, is_null_with_none_but, may_turn, turns_with, TurnsNoneWith}
 use Rattle.suitor_index.proofs.Counts.{others_counted}
 use Rattle.suitor_index.proofs.NeighbourSums.{listed_is_linked}
 use Rattle.suitor_index.proofs.NodeChanges.{IsHalfTold}
