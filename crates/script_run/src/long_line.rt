@@ -13,7 +13,7 @@ use rule_machine::Rules;
 use seeded_turns::EventSource;
 use std::io::Write;
 
-// After how many turns the text is looked at: where several nodes move in a turn, one turn's text may be long.
+// After how many turns the text is looked at: if several nodes move in a turn, one turn's text may be long.
 fn turns_at_once(central: bool) -> u32
     ensures { 0 < result }
 {
