@@ -1,6 +1,6 @@
 """Judges what the prover prints of a function with a mistake: refused, proved or undecided.
 
-Strictly, a mistake is refused only if a goal of a clause fails: of an `ensures`, of an invariant, or of a
+A mistake is refused only if a goal of a clause fails: of an `ensures`, of an invariant, or of a
 callee's `requires`. Without the mistake the prover proves this goal by itself. Or the goal has a hand-written
 answer, which still fits and fails, and the prover does not prove the goal without the answer either.
 """
@@ -35,11 +35,6 @@ UNKNOWN = re.compile(r"`(\S+)` is not in scope")
 # An answer whose tactic finds no proof.
 NO_PROOF = re.compile(r"`(?:omega|grind|search|simp|cc)`:? (?!does not read)")
 UNREAD = "the borrow checker does not cover"
-# An error about a name, and not about a fact.
-OF_NAMES = re.compile(
-    r"has no field|not in scope|has no `|was not admitted|is no name|no goal of that name|exports no `"
-    r"|expected type `?Unit|`Unit \{\d+\}` \(expected\)"
-)
 # What decides the form of a body, and so the names of its goals.
 CONTROL = re.compile(r"\b(?:if|else|match|return|while|for|loop|break|continue)\b|\?|=>|&&|\|\|")
 # A declaration that no check admits. With one among a function's answers the prover tries each goal. But it
@@ -132,21 +127,6 @@ def judged(report: Report, answers: Collection[str], aside: Mapping[str, str], s
     errors = (f"the proof of {goal} fails: {text}" for goal, text in report.wrong.items())
     why = [*doubts.values(), *errors, report.line][0].partition("\n")[0]
     return Verdict(UNDECIDED, f"is not judged: {why}")
-
-
-def judged_by_any_goal(report: Report) -> Verdict:
-    """The verdict of the quick way: an open goal shows the mistake, and so does a failed answer, unless the
-    error is of a name."""
-    if report.line == "proved":
-        return Verdict(PROVED, "is still proved")
-    goals = [it for it in report.goals if not OF_SAFETY.match(it)]
-    if goals:
-        return Verdict(REFUSED, f"is refused at {next((it for it in goals if it.startswith('returns')), goals[0])}")
-    errors = {goal: text.partition("\n")[0] for goal, text in report.wrong.items()}
-    real = [text for goal, text in errors.items() if not OF_NAMES.search(text) and not OF_SAFETY.match(goal)]
-    if real:
-        return Verdict(REFUSED, f"is refused: {real[0]}")
-    return Verdict(UNDECIDED, f"is not judged: {[*errors.values(), report.line][0]}")
 
 
 def without_answers(text: str, names: Collection[str]) -> str:
