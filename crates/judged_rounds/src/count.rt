@@ -18,15 +18,18 @@ use std::alloc::Global;
 /// How many rounds are complete in a run that a judge follows, and which nodes are enabled.
 ///
 /// A name is due from the call before an entry, which may enable or disable a rule there, to the call after it.
+/// `callers` has for each name the index in its neighbour list of the caller that was found last.
 #[derive(Drop)]
 pub struct JudgedRounds {
     rules: RuleSet,
     size: u32,
     enabled: EnabledSet,
     due: Marks,
+    callers: Vec<u16>,
     counter: RoundCounter,
     ghost places: { length enabled ≡ size + 1 },
     ghost due_places: { length due ≡ size + 1 },
+    ghost caller_places: { length callers.items ≡ size + 1 },
 }
 
 /// Lists the pending nodes before a step.
@@ -52,7 +55,7 @@ impl JudgedRounds {
 
     /// A count by these rules that begins in the judge's state, with no complete round.
     ///
-    /// Cost: a look at each name. Takes some nine kilobytes and four bytes a name. Error: out of memory.
+    /// Cost: a look at each name. Takes some nine kilobytes and six bytes a name. Error: out of memory.
     pub fn new(alloc: Global, rules: RuleSet, judge: &Judge) -> Result<JudgedRounds, Want>
         ensures rules { IfOk result (λ it. it.rules ≡ rules) }
         ensures rounds { IfOk result (λ it. it.counter.rounds ≡ 0) }
@@ -62,15 +65,17 @@ impl JudgedRounds {
         let mut enabled = EnabledSet::new(alloc, size)?;
         let mut due = Marks::new(alloc, size)?;
         due.mark_all();
+        let mut callers = vec![in alloc; 0; size as usize + 1]?;
         let counter = RoundCounter::new(alloc)?;
         // Gives the prover `IsState`.
         let _ = judge.store();
-        look_again(&mut enabled, &mut due, judge, rules);
+        look_again(&mut enabled, &mut due, &mut callers, judge, rules);
         Ok(JudgedRounds {
             rules,
             size,
             enabled,
             due,
+            callers,
             counter,
         })
     }
@@ -98,15 +103,22 @@ impl JudgedRounds {
 
     /// Counts an entry that `prepare` was called with, after the judge carried it out.
     ///
-    /// Cost: for each marked name, looks at its neighbours up to the first that decides whether a rule is
-    /// enabled; for a step, a look or two at each mover and each of its neighbours.
+    /// Cost: for each marked name, a look at the neighbour that called last and, if it no longer calls, at the
+    /// neighbours after it, in turn, up to the next that does; for a step, also a look or two at each mover and
+    /// each of its neighbours.
     pub fn follow(&mut self, judge: &Judge, reply: &Reply)
         ensures rules { self.new.rules ≡ self.old.rules }
         ensures few { self.new.counter.rounds ≤ self.old.counter.rounds + cond (is_step reply.now) 1 0 }
         ensures counts { (start : State) (log : List Entry) (s : State) (event : Event) → IsReadyFor start log s event reply.now self.old → judge.now ≡ followed s event reply.now → self.old.counter.rounds < 4294967295
             → CountsIn (start_after start reply.now judge.now) (log_after log event reply.now) judge.now self.new }
     {
-        look_again(&mut self.enabled, &mut self.due, judge, self.rules);
+        look_again(
+            &mut self.enabled,
+            &mut self.due,
+            &mut self.callers,
+            judge,
+            self.rules,
+        );
         self.counter.follow(reply, judge.store(), &self.enabled);
     }
 }

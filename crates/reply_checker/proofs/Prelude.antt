@@ -2,9 +2,9 @@
 pub use Rattle.std.proofs.Common.{◌∙◌, ◌≤◌, Bool, List, ap, subst, sym, arith, ◌≡◌, ℕ, ◌+◌, ◌<◌, ◌↔◌, zero, suc, true, false, cond, nat_lt, [], ◌∷◌, drop, get_or, length, filter_map, Option, None, Some, is_some, IsTrue, refl, ⊎_elim, lt-ltb, ◌≢◌, find, set, nat_eq, ◌-◌, map, IfSome, nat_le, ◌*◌, not, ◌&&◌, count_by, sum_by, ap₂, replicate, ◌++◌, filter, take, rules, ◌||◌, is_none, Any, All, IsSomeAnd, eqb-true, of_calls}
 pub use Rattle.std.proofs.lemmas.Bool.{cases_lt, true≢false, cases_eq, eq-eqb, ne_eqb, false_from_ne_true, le-leb, leb-true, and_parts, or_from, and_right, or_left, or_right, and_from, lt-leb, or_parts, or_cases, not-true, not_from_false}
 pub use Rattle.std.proofs.lemmas.Fn.{always_returns_same}
-pub use Rattle.std.proofs.lemmas.List.{get_or-set_other, drop_all, drop_more, get_or-set_same, length-set, get_or-replicate, length-replicate, take_more, get_or_past}
+pub use Rattle.std.proofs.lemmas.List.{get_or-set_other, drop_all, drop_more, get_or-set_same, length-set, get_or-replicate, length-replicate, take_more, take-append-drop, take_all, length-drop, get_or_past}
 pub use Rattle.std.proofs.lemmas.List.Elements.{All-weaker, All-set}
-pub use Rattle.std.proofs.lemmas.List.Folds.{sum_by-replicate, find-append}
+pub use Rattle.std.proofs.lemmas.List.Folds.{sum_by-replicate, find-append, list_any-append}
 pub use Rattle.std.proofs.lemmas.List.FromFn.{length-range_with_len}
 pub use Rattle.std.proofs.lemmas.List.Sums.{length-filter, sum_by-cons, count_by-le-length, sum_by-le}
 pub use Rattle.std.proofs.lemmas.Option.{none-some, cond_some}
@@ -68,6 +68,7 @@ pub use Rattle.rule_machine.specs.declared.reply.Reply.TheVariants.{Moves, Enabl
 pub use Rattle.rule_machine.specs.declared.rule_set.RuleSet.{RuleSet}
 pub use Rattle.rule_machine.specs.declared.rule_set.RuleSet.TheVariants.{Hh, Manne}
 pub use Rattle.reply_checker.specs.AscendingLists.{AreRising, lower_end_pair, ruled_node}
+pub use Rattle.reply_checker.specs.Callers.{calls_by, hsu_huang_calls, manne_calls}
 pub use Rattle.reply_checker.specs.Choices.{ruled_at, item_at, IsRuled, HasChosenItems, is_item_node, is_mover, HasOnlyItemsOf, refused_item, is_move_by}
 pub use Rattle.reply_checker.specs.Contributions.{AreExactIfFresh, asks, AreAsking, AddsMember, edge_stance_by, closes, flag_charge, adds, absent_contribution, AreFresh, AreStatusSums, IsContributionAt, FitsTwoBits, contribution_of_name, IsShare}
 pub use Rattle.reply_checker.specs.declared.choices.RuledItem.{RuledItem}

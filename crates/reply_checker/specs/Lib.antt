@@ -1,3 +1,4 @@
+pub mod Callers
 pub mod Choices
 pub mod Contributions
 pub mod ReplyVerdicts

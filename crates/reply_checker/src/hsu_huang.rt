@@ -1,6 +1,6 @@
 //! Hsu and Huang's rules: one node moves at a time, and no flag is used.
 
-ghost use Rattle.std.specs.Prelude.{◌≡◌, ◌≤◌, ◌||◌, All, IsTrue, find, is_none, is_some};
+ghost use Rattle.std.specs.Prelude.{◌≡◌, ◌<◌, ◌≤◌, All, IfSome, IsTrue, find, is_none, is_some, length};
 ghost use Rattle.std.specs.List.{list_any};
 ghost use Rattle.rule_machine.specs.Network.{present};
 ghost use Rattle.rule_machine.specs.State as state;
@@ -9,12 +9,14 @@ ghost use Rattle.rule_machine.specs.HsuHuang.{hsu_huang, hsu_huang_allowed, hsu_
 ghost use Rattle.machine_laws.specs.ClosedByPointers.{hsu_huang_closes};
 ghost use Rattle.machine_laws.specs.Costs as costs;
 ghost use Rattle.machine_laws.specs.Degrees as degrees;
+ghost use Rattle.reply_checker.specs.Callers.{hsu_huang_calls};
 ghost use Rattle.reply_checker.specs.Contributions.{hsu_huang_end};
 
+use crate::callers::calls_any;
 use crate::reads::{degree, first_suitor, freed_edges, has_suitor, pointer, points_back};
 use graph_store::EdgeStance;
 use net_state::NetState;
-use rule_machine::{Act, Event, Node};
+use rule_machine::{Act, Event, Node, RuleSet};
 
 pub(crate) const IS_CENTRAL: bool = true;
 
@@ -36,28 +38,29 @@ pub(crate) fn rule_at(net: &NetState, v: Node) -> Option<Act>
     }
 }
 
-/// Whether a rule is enabled; stops at the first neighbour that decides.
-pub(crate) fn is_enabled(net: &NetState, v: Node) -> bool
+/// Whether a rule is enabled. If the pointer is null, looks for a caller from index `place` on.
+pub(crate) fn is_enabled(net: &NetState, v: Node, place: &mut u16) -> bool
     requires { IsTrue (present net.now.state.network v) }
     ensures { result ≡ is_some (table.rule_at hsu_huang net.now.state v) }
 {
     match net.pointer(v) {
         Some(w) => !points_back(net, v, w) && pointer(net, w).is_some(),
-        None => calls_any(net, net.neighbours(v), v),
+        None => calls_any(net, RuleSet::Hh, v, place),
     }
 }
 
-/// Whether one of `row` points at `v` or has a null pointer.
-fn calls_any(net: &NetState, row: &[Node], v: Node) -> bool
+/// The index of the first of `row` that points at `v` or has a null pointer.
+pub(crate) fn first_caller(net: &NetState, row: &[Node], v: Node) -> Option<usize>
     requires { All (λ w. IsTrue (present net.now.state.network w)) row.now }
-    ensures { result ≡ list_any (λ w. state.suits net.now.state v w || is_none (state.pointer net.now.state w)) row.now }
+    ensures some { is_some result ≡ list_any (hsu_huang_calls net.now.state v) row.now }
+    ensures inside { IfSome result (λ at. at < length row.now) }
 {
-    for &w in row {
+    for (at, &w) in row.iter().enumerate() {
         if net.points(w, v) || net.pointer(w).is_none() {
-            return true;
+            return Some(at);
         }
     }
-    false
+    None
 }
 
 pub(crate) fn is_allowed(net: &NetState, v: Node, act: Act, w: Node) -> bool

@@ -15,6 +15,7 @@
 #![tactic(auto)]
 
 mod bases;
+mod callers;
 mod choices;
 mod contribution;
 mod contributions;

@@ -81,12 +81,17 @@ impl Judge {
         rule_at(&self.survey.net, rules, v)
     }
 
-    /// Whether a rule is enabled at a node. If its pointer is null, looks at its neighbours up to the first that
-    /// points at it or that it may court.
-    pub fn is_enabled(&self, rules: RuleSet, v: Node) -> bool
+    /// Whether a rule is enabled at a node.
+    ///
+    /// A neighbour calls the node if it points at the node or the node may court it. `place` is the index in the
+    /// neighbour list from which the call looks for a caller. The answer does not depend on it.
+    ///
+    /// Cost: if the node's pointer is null, a look at the neighbours from `place` on, then at those before
+    /// `place`, up to the first caller. The call stores this caller's index in `place`.
+    pub fn is_enabled(&self, rules: RuleSet, v: Node, place: &mut u16) -> bool
         requires { IsTrue (network.present self.now.network v) }
         ensures { result ≡ is_some (table.rule_at (table_of rules) self.now v) }
     {
-        is_enabled(&self.survey.net, rules, v)
+        is_enabled(&self.survey.net, rules, v, place)
     }
 }

@@ -1,7 +1,7 @@
 //! The rules of Manne, Mjelde, Pilard and Tixeuil: any set of nodes moves at once, and flags show who is
 //! married.
 
-ghost use Rattle.std.specs.Prelude.{◌≡◌, ◌≤◌, ◌&&◌, ◌||◌, All, IsTrue, Some, find, is_none, is_some, nat_lt, not};
+ghost use Rattle.std.specs.Prelude.{◌≡◌, ◌<◌, ◌≤◌, ◌&&◌, All, IfSome, IsTrue, Some, find, is_none, is_some, length, nat_lt, not};
 ghost use Rattle.std.specs.List.{list_any};
 ghost use Rattle.rule_machine.specs.Charge.{manne_node_charge};
 ghost use Rattle.rule_machine.specs.Network.{neighbours, present};
@@ -10,12 +10,14 @@ ghost use Rattle.rule_machine.specs.RuleTable as table;
 ghost use Rattle.rule_machine.specs.Manne.{manne, manne_allowed, may_court};
 ghost use Rattle.machine_laws.specs.ClosedByPointers.{manne_closes};
 ghost use Rattle.machine_laws.specs.Costs as costs;
+ghost use Rattle.reply_checker.specs.Callers.{manne_calls};
 ghost use Rattle.reply_checker.specs.Contributions.{manne_end};
 
+use crate::callers::calls_any;
 use crate::reads::{degree, first_suitor, flag, has_suitor, pointer, points_back};
 use graph_store::EdgeStance;
 use net_state::NetState;
-use rule_machine::{Act, Event, Node};
+use rule_machine::{Act, Event, Node, RuleSet};
 
 pub(crate) const IS_CENTRAL: bool = false;
 
@@ -38,8 +40,8 @@ pub(crate) fn rule_at(net: &NetState, v: Node) -> Option<Act>
     }
 }
 
-/// Whether a rule is enabled; stops at the first neighbour that decides.
-pub(crate) fn is_enabled(net: &NetState, v: Node) -> bool
+/// Whether a rule is enabled. If the pointer is null, looks for a caller from index `place` on.
+pub(crate) fn is_enabled(net: &NetState, v: Node, place: &mut u16) -> bool
     requires { IsTrue (present net.now.state.network v) }
     ensures { result ≡ is_some (table.rule_at manne net.now.state v) }
 {
@@ -48,21 +50,22 @@ pub(crate) fn is_enabled(net: &NetState, v: Node) -> bool
     }
     match net.pointer(v) {
         Some(w) => !points_back(net, v, w) && (flag(net, w) || w <= v),
-        None => calls_any(net, net.neighbours(v), v),
+        None => calls_any(net, RuleSet::Manne, v, place),
     }
 }
 
-/// Whether one of `row` points at `v`, or `v` may court it.
-fn calls_any(net: &NetState, row: &[Node], v: Node) -> bool
+/// The index of the first of `row` that points at `v`, or that `v` may court.
+pub(crate) fn first_caller(net: &NetState, row: &[Node], v: Node) -> Option<usize>
     requires { All (λ w. IsTrue (present net.now.state.network w)) row.now }
-    ensures { result ≡ list_any (λ w. state.suits net.now.state v w || may_court net.now.state v w) row.now }
+    ensures some { is_some result ≡ list_any (manne_calls net.now.state v) row.now }
+    ensures inside { IfSome result (λ at. at < length row.now) }
 {
-    for &w in row {
-        if net.points(w, v) || may_court(net, v, w) {
-            return true;
+    for (at, &w) in row.iter().enumerate() {
+        if net.points(w, v) || (v < w && net.pointer(w).is_none() && !net.flag(w)) {
+            return Some(at);
         }
     }
-    false
+    None
 }
 
 pub(crate) fn is_allowed(net: &NetState, v: Node, act: Act, w: Node) -> bool

@@ -1,9 +1,11 @@
 //! What differs by the rule set: each function dispatches to the file of its rules.
 
-ghost use Rattle.std.specs.Prelude.{◌≡◌, ◌≤◌, IsTrue, is_some};
+ghost use Rattle.std.specs.Prelude.{◌≡◌, ◌<◌, ◌≤◌, All, IfSome, IsTrue, is_some, length};
+ghost use Rattle.std.specs.List.{list_any};
 ghost use Rattle.rule_machine.specs.Network.{present};
 ghost use Rattle.rule_machine.specs.RuleTable as table;
 ghost use Rattle.rule_machine.specs.Tables.{table_of};
+ghost use Rattle.reply_checker.specs.Callers.{calls_by};
 ghost use Rattle.reply_checker.specs.ReplyVerdicts.{cost_by};
 ghost use Rattle.reply_checker.specs.Contributions.{closes, edge_stance_by, flag_charge};
 
@@ -24,14 +26,27 @@ pub(crate) fn rule_at(net: &NetState, rules: RuleSet, v: Node) -> Option<Act>
     }
 }
 
-/// Whether a rule is enabled at a node. If the pointer is null, looks at neighbours up to the first that decides.
-pub(crate) fn is_enabled(net: &NetState, rules: RuleSet, v: Node) -> bool
+/// Whether a rule is enabled at a node. If the pointer is null, looks for a caller from index `place` on.
+pub(crate) fn is_enabled(net: &NetState, rules: RuleSet, v: Node, place: &mut u16) -> bool
     requires { IsTrue (present net.now.state.network v) }
     ensures { result ≡ is_some (table.rule_at (table_of rules) net.now.state v) }
 {
     match rules {
-        RuleSet::Hh => hsu_huang::is_enabled(net, v),
-        RuleSet::Manne => manne::is_enabled(net, v),
+        RuleSet::Hh => hsu_huang::is_enabled(net, v, place),
+        RuleSet::Manne => manne::is_enabled(net, v, place),
+    }
+}
+
+/// The index of the first of `row` that calls `v`.
+#[inline(always)]
+pub(crate) fn first_caller(net: &NetState, rules: RuleSet, row: &[Node], v: Node) -> Option<usize>
+    requires { All (λ w. IsTrue (present net.now.state.network w)) row.now }
+    ensures some { is_some result ≡ list_any (calls_by rules net.now.state v) row.now }
+    ensures inside { IfSome result (λ at. at < length row.now) }
+{
+    match rules {
+        RuleSet::Hh => hsu_huang::first_caller(net, row, v),
+        RuleSet::Manne => manne::first_caller(net, row, v),
     }
 }
 

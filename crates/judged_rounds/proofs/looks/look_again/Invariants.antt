@@ -6,6 +6,7 @@ invariant-loop-v l = record {
   on : AreOnBut (table_of l.rules) l.judge l.fn.enabled l.fn.due → AreOnBut (table_of l.rules) l.judge l.enabled l.due;
   places : length l.enabled ≡ length l.fn.enabled;
   due_places : length l.due ≡ length l.fn.due;
+  caller_places : length l.callers ≡ length l.fn.callers;
 }
 
 abbrev pub decreases-loop-v : goal.decreases-loop-v

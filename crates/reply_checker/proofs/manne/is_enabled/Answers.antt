@@ -1,4 +1,4 @@
-use Rattle.reply_checker.proofs.Prelude.{◌∙◌, ◌≡◌, ◌||◌, ap, sym, arith, list_any, flag, married, may_court, pointer, suits}
+use Rattle.reply_checker.proofs.Prelude.{◌∙◌, ◌≡◌, sym, arith, flag, married}
 use Rattle.reply_checker.proofs.EnabledNodes.{manne_null}
 use Rattle.reply_checker.proofs.manne.is_enabled.Goals as goal
 
@@ -7,4 +7,4 @@ returns-in-None c =
     let s = c.args.net.now.state in
     let v = c.args.v in
     let right : flag s v ≡ married s v = grind (arith, c.flag.ensures, c.married.ensures, c.if-flag-married.false) in
-    c.calls_any.ensures ∙ ap (list_any (λ w. suits s v w || may_court s v w)) c.neighbours.ensures.all ∙ manne_null s v right (sym c.pointer.ensures ∙ c.in-None.is)
+    c.calls_any.ensures ∙ manne_null s v right (sym c.pointer.ensures ∙ c.in-None.is)

@@ -1,0 +1,46 @@
+//! Finds a neighbour that calls a node, from a given index of the node's neighbour list on.
+//!
+//! A neighbour calls a node with a null pointer if it points at the node or the node may court it.
+
+ghost use Rattle.std.specs.Prelude.{◌≡◌, ◌<◌, ◌≤◌, All, IfSome, IsTrue, is_some, length};
+ghost use Rattle.std.specs.List.{list_any};
+ghost use Rattle.rule_machine.specs.Network.{neighbours, present};
+ghost use Rattle.reply_checker.specs.Callers.{calls_by};
+
+use crate::rules::first_caller;
+use net_state::NetState;
+use rule_machine::{Node, RuleSet};
+
+/// The index of the first caller in `row` from index `start` on, or else of the first before `start`.
+fn caller_from(net: &NetState, rules: RuleSet, row: &[Node], v: Node, start: usize) -> Option<usize>
+    requires present { All (λ w. IsTrue (present net.now.state.network w)) row.now }
+    requires within { start ≤ length row.now }
+    ensures some { is_some result ≡ list_any (calls_by rules net.now.state v) row.now }
+    ensures inside { IfSome result (λ at. at < length row.now) }
+{
+    match first_caller(net, rules, &row[start..], v) {
+        Some(at) => Some(start + at),
+        None => first_caller(net, rules, &row[..start], v),
+    }
+}
+
+/// Whether a neighbour calls `v`; stores the caller's index in `place`.
+///
+/// Looks at the neighbours from index `place` on, then at those before it.
+#[tactic(auto, using(crate::proofs::Degrees::few_edges))]
+pub(crate) fn calls_any(net: &NetState, rules: RuleSet, v: Node, place: &mut u16) -> bool
+    requires { IsTrue (present net.now.state.network v) }
+    ensures { result ≡ list_any (calls_by rules net.now.state v) (neighbours net.now.state.network v) }
+{
+    // Gives the prover that there are few names.
+    let _ = net.capacity();
+    let row = net.neighbours(v);
+    let start = usize::from(*place).min(row.len());
+    match caller_from(net, rules, row, v, start) {
+        Some(at) => {
+            *place = at as u16;
+            true
+        }
+        None => false,
+    }
+}
