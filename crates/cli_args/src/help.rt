@@ -10,7 +10,7 @@ pub(crate) const NODES_HELP: &str = "The capacity: nodes are named 1 to N; at mo
 
 pub(crate) const PRESENT_HELP: &str = "Nodes 1 to P are present at the start; default: all";
 
-pub(crate) const WORKERS_HELP: &str = "How many workers evaluate a step; 1 to 64";
+pub(crate) const WORKERS_HELP: &str = "Up to K workers judge a step; 1 to 64";
 
 pub(crate) const FROM_HELP: &str = "Go on where the run of a transcript or a base ended";
 
@@ -39,8 +39,9 @@ console run [OPTIONS] --rules <RULES> --nodes <N> [SCRIPT]
        console run [OPTIONS] --from <FILE> [SCRIPT]";
 
 pub(crate) const RUN_NOTES: &str = "\
-Under hh one enabled node moves in a step, under manne any set of them. The
-number of workers does not change the transcript.
+Under hh one enabled node moves in a step, under manne any set of them. Up to K
+workers judge a step: one for each 16384 of its nodes, so a single one below
+32768. The number of workers does not change the transcript.
 
 The entries of all whole lines are written before more input is read. So a
 person or a program at the other end of a pipe can read the replies and then
@@ -171,7 +172,8 @@ Each script has its own thread and the commands of run. A script's commands are
 carried out in order, interleaved with those of the others. All scripts are read
 before the first command. After the last one the log is settled: compared with
 every reply that a script got. Then it is written, from the last checkpoint on
-if there was one.
+if there was one. Up to K workers judge a script's step: one for each 16384 of
+its nodes.
 
 Roaming workers need no script. In turn t, from 0, a worker lets one enabled
 node move: the one at index t modulo how many there are, ascending. If no node

@@ -40,12 +40,13 @@ Options:
       --rules <RULES>  Hsu and Huang's, or Manne's [possible values: hh, manne]
       --nodes <N>      The capacity: nodes are named 1 to N; at most 65535
       --present <P>    Nodes 1 to P are present at the start; default: all
-      --workers <K>    How many workers evaluate a step; 1 to 64 [default: 1]
+      --workers <K>    Up to K workers judge a step; 1 to 64 [default: 1]
       --from <FILE>    Go on where the run of a transcript or a base ended
   -h, --help           Print help
 
-Under hh one enabled node moves in a step, under manne any set of them. The
-number of workers does not change the transcript.
+Under hh one enabled node moves in a step, under manne any set of them. Up to K
+workers judge a step: one for each 16384 of its nodes, so a single one below
+32768. The number of workers does not change the transcript.
 
 The entries of all whole lines are written before more input is read. So a
 person or a program at the other end of a pipe can read the replies and then
