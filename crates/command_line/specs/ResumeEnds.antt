@@ -1,6 +1,6 @@
 -- How a run or a storm ends that goes on where the run of a file ended: what the writers have, and the exit
 -- status.
-use Rattle.std.specs.Prelude.{◌≡◌, ◌⊎◌, ℕ, List, [], ◌++◌, length, max, min, Result, Ok, Err, None, codes}
+use Rattle.std.specs.Prelude.{◌≡◌, ◌⊎◌, ℕ, List, [], ◌++◌, length, max, min, Option, None, Result, Ok, Err, IfSome, codes}
 use Rattle.std.specs.Io.KnownBytes.{Appends, Keeps}
 use Rattle.rule_machine.specs.RuleTable.{RuleTable}
 use Rattle.rule_machine.specs.Tables.{table_of}
@@ -65,17 +65,27 @@ abbrev pub GoesOnBehind : List ℕ → TranscriptEnd → List ℕ → WrittenByt
 GoesOnBehind first end script old new before after status =
     (ended : Result Unit RunFault) × EndsFrom (table_of end.rules) 16777216 (start_at end) script old new ended × EndsAccepted ended (λ text. IsAcceptedText text × IsAcceptedText (first ++ text)) (Appends old new) (AppendsBeginning old new) × TellsRunEnd ended before after × (status ≡ ended_status ended)
 
+-- The result is that of an audit of these bytes. They are all that was left in the reader, if that is known.
+abbrev pub IsAuditOf : Option (List ℕ) → List ℕ → Result TranscriptEnd AuditFault → Type 0
+IsAuditOf left bytes audited = IfSome left (λ all. bytes ≡ all) × IsEndResult bytes audited
+
 -- what is done with the audit of a file with these bytes: the run goes on from its end, or a fault is reported
 abbrev pub ResumesAfter : List ℕ → Result TranscriptEnd AuditFault → List ℕ → List ℕ → WrittenBytes → WrittenBytes → WrittenBytes → WriterState → ℕ → Type 0
 ResumesAfter bytes (Ok end) file script old new before after status =
     MayGoOn end × GoesOnBehind bytes end script old new before after status
 ResumesAfter bytes (Err fault) file script old new before after status = TellsAuditFault file fault old new before after status
 
--- Some bytes were audited, and the result was reported so: the run goes on from the end of the run whose
--- transcript these bytes are, or they have the damage that is reported. A file's contents are not known.
+-- An open file had this left, if that is known. It was audited: the run goes on from the end of the run whose
+-- transcript the audited bytes are, or they have the damage that is reported.
+abbrev pub ResumesOpened : Option (List ℕ) → List ℕ → List ℕ → WrittenBytes → WrittenBytes → WrittenBytes → WriterState → ℕ → Type 0
+ResumesOpened left file script old new before after status =
+    (bytes : List ℕ) × (audited : Result TranscriptEnd AuditFault) × IsAuditOf left bytes audited × ResumesAfter bytes audited file script old new before after status
+
+-- The file could not be opened, which is reported as a failed read; or the run went on from what it had left. No
+-- contract can say what a file has left, so this holds for the bytes that were read.
 abbrev pub ResumesFile : List ℕ → List ℕ → WrittenBytes → WrittenBytes → WrittenBytes → WriterState → ℕ → Type 0
 ResumesFile file script old new before after status =
-    (bytes : List ℕ) × (audited : Result TranscriptEnd AuditFault) × IsEndResult bytes audited × ResumesAfter bytes audited file script old new before after status
+    TellsUnread file old new before after status ⊎ ((left : Option (List ℕ)) × ResumesOpened left file script old new before after status)
 
 -- the end of a transcript as where a run or a storm goes on, with this many workers for a step
 abbrev pub restart_from : TranscriptEnd → ℕ → RestartView
@@ -101,8 +111,14 @@ StormsAfter (Ok end) storm old new before after status =
     MayGoOn end × PlaysStormFrom (storm_from end storm) (length storm.scripts) old new before after status
 StormsAfter (Err fault) storm old new before after status = TellsAuditFault storm.from fault old new before after status
 
--- Some bytes were audited, and the result was reported so: the storm goes on from the end of the run whose
--- transcript these bytes are, or they have the damage that is reported. A file's contents are not known.
+-- An open file had this left, if that is known. It was audited: the storm goes on from the end of the run whose
+-- transcript the audited bytes are, or they have the damage that is reported.
+abbrev pub StormsOpened : Option (List ℕ) → ResumedStorm → WrittenBytes → WrittenBytes → WrittenBytes → WriterState → ℕ → Type 0
+StormsOpened left storm old new before after status =
+    (bytes : List ℕ) × (audited : Result TranscriptEnd AuditFault) × IsAuditOf left bytes audited × StormsAfter audited storm old new before after status
+
+-- The file could not be opened, which is reported as a failed read; or the storm went on from what it had left.
+-- No contract can say what a file has left, so this holds for the bytes that were read.
 abbrev pub ResumesStorm : ResumedStorm → WrittenBytes → WrittenBytes → WrittenBytes → WriterState → ℕ → Type 0
 ResumesStorm storm old new before after status =
-    (bytes : List ℕ) × (audited : Result TranscriptEnd AuditFault) × IsEndResult bytes audited × StormsAfter audited storm old new before after status
+    TellsUnread storm.from old new before after status ⊎ ((left : Option (List ℕ)) × StormsOpened left storm old new before after status)
