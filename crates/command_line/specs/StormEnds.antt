@@ -11,10 +11,10 @@ use Rattle.command_line.specs.StormTexts.{WritesAccepted}
 use Rattle.command_line.specs.FileNotes.{AddsNote}
 use Rattle.command_line.specs.WriterStates.{WrittenBytes, WriterState, WritesLine}
 
--- one of these files cannot be opened, or memory ran out for opening them
+-- one of these files cannot be opened, or memory ran out when one was open
 abbrev pub FailsToOpen : ℕ → StormFault → Type 0
 FailsToOpen files Read = 0 < files
-FailsToOpen files Memory = Unit {0}
+FailsToOpen files Memory = 0 < files
 FailsToOpen files _ = ⊥
 
 -- The storm of this many scripts ended in one of the ways in which a storm may; nothing is said of their
