@@ -1,7 +1,7 @@
 -- How a run or a storm ends that goes on where the run of a file ended: what the writers have, and the exit
 -- status.
 use Rattle.std.specs.Prelude.{◌≡◌, ◌⊎◌, ℕ, List, [], ◌++◌, length, max, min, Option, None, Result, Ok, Err, IfSome, codes}
-use Rattle.std.specs.Io.KnownBytes.{Appends, Keeps}
+use Rattle.std.specs.Io.KnownBytes.{Keeps}
 use Rattle.rule_machine.specs.RuleTable.{RuleTable}
 use Rattle.rule_machine.specs.Tables.{table_of}
 use Rattle.script_text.specs.Script.{Progress, with_checkpoint}
@@ -12,9 +12,7 @@ use Rattle.auditor.specs.TranscriptEnds.{IsEndResult, MayGoOn}
 use Rattle.script_run.specs.declared.fault.RunFault.{RunFault}
 use Rattle.script_run.specs.declared.fault.RunFault.TheVariants as run
 use Rattle.script_run.specs.Outcome.{EndsFrom}
-use Rattle.audit_parts.specs.Laws.{IsAcceptedText}
-use Rattle.command_line.specs.Written.{EndsAccepted}
-use Rattle.byte_streams.specs.PartialOutput.{AppendsBeginning}
+use Rattle.command_line.specs.Written.{EndsAcceptedFrom, IsAcceptedBehind}
 use Rattle.script_run.specs.Restarts.{RestartView}
 use Rattle.cli_args.specs.TaskWords.{ResumedStorm}
 use Rattle.command_line.specs.declared.verdict.CheckEnd.TheVariants as verdict
@@ -59,11 +57,11 @@ start_at end = with_checkpoint (record {
 })
 
 -- The script was run from the end of a transcript, a fault was reported, and the exit status fits. The auditor
--- accepts what was written, alone and behind the transcript; if the writer failed or memory ran out, it accepts
--- a text that begins so.
+-- accepts what was written, alone and behind the transcript, and counts the entries; if the writer failed or
+-- memory ran out, it accepts a text that begins so.
 abbrev pub GoesOnBehind : List ℕ → TranscriptEnd → List ℕ → WrittenBytes → WrittenBytes → WrittenBytes → WriterState → ℕ → Type 0
 GoesOnBehind first end script old new before after status =
-    (ended : Result Unit RunFault) × EndsFrom (table_of end.rules) 16777216 (start_at end) script old new ended × EndsAccepted ended (λ text. IsAcceptedText text × IsAcceptedText (first ++ text)) (Appends old new) (AppendsBeginning old new) × TellsRunEnd ended before after × (status ≡ ended_status ended)
+    (ended : Result Unit RunFault) × EndsFrom (table_of end.rules) 16777216 (start_at end) script old new ended × EndsAcceptedFrom (table_of end.rules) 16777216 (start_at end) (IsAcceptedBehind first end) script old new ended × TellsRunEnd ended before after × (status ≡ ended_status ended)
 
 -- The result is that of an audit of these bytes. They are all that was left in the reader, if that is known.
 abbrev pub IsAuditOf : Option (List ℕ) → List ℕ → Result TranscriptEnd AuditFault → Type 0
