@@ -6,8 +6,10 @@ use Rattle.byte_streams.specs.PartialOutput.{AppendsBeginning}
 use Rattle.rule_machine.specs.declared.base.Base.{Base}
 use Rattle.rule_machine.specs.declared.rule_set.RuleSet.{RuleSet}
 use Rattle.rule_machine.specs.Tables.{table_of, weight_of}
-use Rattle.rule_machine.specs.Base.{dropped}
+use Rattle.rule_machine.specs.Base.{base_of, dropped}
 use Rattle.rule_machine.specs.Run.{Entry}
+use Rattle.rule_machine.specs.State.{State}
+use Rattle.line_text.specs.BaseText.{base_text}
 use Rattle.line_text.specs.EntryText.{entry_lines}
 use Rattle.step_log.specs.RetainedLogs.{RetainedLog}
 use Rattle.locked_net.specs.declared.call_fault.CallFault.{CallFault}
@@ -17,12 +19,17 @@ use Rattle.step_log.proofs.ReplyKinds.{nodes_few}
 use Rattle.auditor.specs.AcceptedRuns.{IsAccepted}
 use Rattle.auditor.specs.Parts.{opening_text}
 use Rattle.auditor.specs.Transcript.{IsEntryValue}
+use Rattle.auditor.specs.TranscriptEnds.{IsTranscriptEnd, end_moment}
+use Rattle.auditor.specs.declared.transcript_end.TranscriptEnd.{TranscriptEnd}
+use Rattle.audit_parts.specs.Continuations.{ContinuesRun}
+use Rattle.audit_parts.specs.Seams.{counted_both}
+use Rattle.audit_parts.proofs.ContinuedRuns.{continued_is_accepted}
 use Rattle.script_text.specs.declared.script.ScriptLine.{ScriptLine}
 use Rattle.storm_runner.specs.declared.fault.StormFault.{StormFault}
 use Rattle.storm_runner.specs.declared.fault.StormFault.TheVariants.{TooManyScripts, BadLine, LogFull, Read, Write, Memory, Behind, Thread, Unsettled}
 use Rattle.storm_runner.specs.Outcome.{EndsAllScripts, IsResumedStorm, Leaves, LeavesText, StormStart, resumed_start, text_of}
 use Rattle.storm_runner.specs.RetainedText.{AreWritable, retained_opening}
-use Rattle.command_line.specs.StormTexts.{IsAcceptedLog, LeavesAccepted, WritesAccepted}
+use Rattle.command_line.specs.StormTexts.{IsAcceptedLog, IsAcceptedLogBehind, LeavesAccepted, WritesAccepted}
 use Rattle.command_line.specs.Written.{log_text, opening_of}
 use Rattle.command_line.proofs.KeptLogs.{kept_accepted}
 
@@ -73,3 +80,49 @@ storm_accepted at texts within old new result ends = storm_ended (IsAcceptedLog 
 -- a storm that goes on begins with no more nodes than names
 pub resumed_storm_accepted : (from : RestartView) (texts : List (Option (List ℕ))) (old new : Option (List ℕ)) (result : Result Unit StormFault) → IsResumedStorm from texts old new result → WritesAccepted (IsAcceptedLog (options_at from)) (resumed_start from) texts old new result
 resumed_storm_accepted from texts old new result ends = storm_accepted (resumed_start from) texts (nodes_few from.state.network) old new result ends
+
+-- ---- behind the text that it continues
+
+module _ (first : List ℕ) (end : TranscriptEnd) (from : RestartView) (is : IsTranscriptEnd first end) (rules : from.rules ≡ end.rules) (state : from.state ≡ end.net.state) where
+  abbrev asked : OptionsView
+  asked = options_at from
+
+  abbrev base : Base
+  base = base_of end.number (end_moment end).moment
+
+  continues : (kept : RetainedLog) → kept.state.network.size ≡ from.state.network.size → kept.base ≡ Some base → ContinuesRun first (text_of asked kept)
+  continues kept size begins =
+      let own = kept.state.network.size in
+      let lines = entry_lines (dropped kept.base + 1) kept.entries in
+      let opening : retained_opening asked.rules asked.nodes asked.present own kept.base ≡ base_text end.rules end.net.state.network.size base =
+      ap (λ (b : Option Base). retained_opening asked.rules asked.nodes asked.present own b) begins
+      ∙ ap (λ (r : RuleSet). base_text r own base) rules
+      ∙ ap (λ (n : ℕ). base_text end.rules n base) (size ∙ ap (λ (s : State). s.network.size) state) in
+      record {
+        rules = end.rules;
+        opening = is.opening;
+        log = is.log;
+        end = end_moment end;
+        transcript = is.transcript;
+        behind = lines;
+        begins = ap (λ (l : List ℕ). l ++ lines) opening;
+      }
+
+  first_accepted : IsAccepted first end.summary
+  first_accepted = record {
+    rules = end.rules;
+    opening = is.opening;
+    log = is.log;
+    end = end_moment end;
+    transcript = is.transcript;
+    counts = is.counts;
+  }
+
+  log_behind : (scripts : List (List ScriptLine)) (fault : Option CallFault) (kept : RetainedLog)
+      → Leaves (table_of from.rules) (weight_of from.rules) (resumed_start from) scripts fault kept → AreWritable kept.entries → IsAcceptedLogBehind first end asked kept
+  log_behind scripts fault kept leaves values =
+      let own = log_accepted (resumed_start from) (nodes_few from.state.network) scripts fault kept leaves values in
+      (own, λ begins. (counted_both end.summary own.0, continued_is_accepted first (text_of asked kept) end.summary own.0 (continues kept leaves.nodes_are begins) first_accepted own.1, ap (λ (n : ℕ). end.summary.entries + n) own.2))
+
+  pub resumed_storm_behind : (texts : List (Option (List ℕ))) (old new : Option (List ℕ)) (result : Result Unit StormFault) → IsResumedStorm from texts old new result → WritesAccepted (IsAcceptedLogBehind first end asked) (resumed_start from) texts old new result
+  resumed_storm_behind texts old new result ends = storm_ended (IsAcceptedLogBehind first end asked) (resumed_start from) log_behind texts old new result ends

@@ -13,11 +13,13 @@ use Rattle.auditor.specs.TranscriptEnds.{IsEndResult, IsTranscriptEnd, MayGoOn}
 use Rattle.auditor.specs.Verdict.{IsAuditFault}
 use Rattle.byte_streams.specs.PartialOutput.{AppendsBeginning}
 use Rattle.cli_args.specs.TaskWords.{ResumedStorm}
-use Rattle.script_run.specs.Restarts.{RestartView}
+use Rattle.script_run.specs.Restarts.{RestartView, options_at}
 use Rattle.script_run.specs.declared.fault.RunFault.{RunFault}
 use Rattle.script_run.specs.declared.fault.RunFault.TheVariants as run
 use Rattle.script_run.specs.Outcome.{IsRunOutcome}
 use Rattle.command_line.proofs.AcceptedOutcomes.{resumed_accepted, run_accepted}
+use Rattle.command_line.proofs.AcceptedStorms.{resumed_storm_behind}
+use Rattle.command_line.specs.StormTexts.{IsAcceptedLog}
 use Rattle.command_line.specs.ProgramEnds.{TellsOutcome}
 use Rattle.command_line.specs.RunNotes.{TellsRunEnd}
 use Rattle.command_line.specs.Status.{ended_status}
@@ -95,13 +97,15 @@ went_on (Some script) left bytes end rules limit start file old new before after
 
 -- the storm was played from the end of the file
 pub stormed_on : (left : Option (List ℕ)) (bytes : List ℕ) (end : TranscriptEnd) (storm : ResumedStorm) (restart : RestartView) (scripts : ℕ) (old new before : WrittenBytes) (after : WriterState) (ended : Result Unit StormFault) (status : ℕ)
-    → IsAuditOf left bytes (Ok end) → MayGoOn end → restart ≡ storm_from end storm → scripts ≡ length storm.scripts → EndsStormFrom restart scripts old new ended
+    → IsAuditOf left bytes (Ok end) → MayGoOn end → restart ≡ storm_from end storm → scripts ≡ length storm.scripts → EndsStormFrom (IsAcceptedLog (options_at restart)) restart scripts old new ended
     → TellsStormEnd ended before after status
     → StormsOpened left storm old new before after status
 stormed_on left bytes end storm restart scripts old new before after ended status judged may same count ends told =
-    let from = subst (λ (r : RestartView). EndsStormFrom r scripts old new ended) same ends in
-    let some = subst (λ (n : ℕ). EndsStormFrom (storm_from end storm) n old new ended) count from in
-    (bytes, Ok end, judged, (may, (ended, some, told)))
+    let from = storm_from end storm in
+    let some = subst (λ (r : RestartView). EndsStormFrom (IsAcceptedLog (options_at r)) r scripts old new ended) same ends in
+    let all = subst (λ (n : ℕ). EndsStormFrom (IsAcceptedLog (options_at from)) from n old new ended) count some in
+    let accepted = resumed_storm_behind bytes end from (was_ended bytes end judged.1) refl refl all.0 old new ended all.2 in
+    (bytes, Ok end, judged, (may, (ended, (all.0, all.1, all.2, accepted), told)))
 
 -- the file was refused
 pub refused : (input left : Option (List ℕ)) (bytes : List ℕ) (fault : AuditFault) (file : List ℕ) (old new before : WrittenBytes) (after : WriterState) (status : ℕ)

@@ -13,13 +13,14 @@ use Rattle.script_run.specs.declared.fault.RunFault.{RunFault}
 use Rattle.script_run.specs.declared.fault.RunFault.TheVariants as run
 use Rattle.script_run.specs.Outcome.{EndsFrom}
 use Rattle.command_line.specs.Written.{EndsAcceptedFrom, IsAcceptedBehind}
-use Rattle.script_run.specs.Restarts.{RestartView}
+use Rattle.script_run.specs.Restarts.{RestartView, options_at}
 use Rattle.cli_args.specs.TaskWords.{ResumedStorm}
 use Rattle.command_line.specs.declared.verdict.CheckEnd.TheVariants as verdict
 use Rattle.command_line.specs.FileNotes.{TellsUnread}
 use Rattle.command_line.specs.RunNotes.{TellsRunEnd}
 use Rattle.command_line.specs.Status.{ended_status}
 use Rattle.command_line.specs.StormEnds.{PlaysStormFrom}
+use Rattle.command_line.specs.StormTexts.{IsAcceptedLogBehind}
 use Rattle.command_line.specs.VerdictText.{verdict_line}
 use Rattle.command_line.specs.ViewEnds.{TellsEarly}
 use Rattle.command_line.specs.WriterStates.{WrittenBytes, WriterState, WritesLine}
@@ -103,17 +104,18 @@ abbrev pub storm_from : TranscriptEnd → ResumedStorm → RestartView
 storm_from end storm =
     record (restart_from end storm.workers) { roamers = min storm.roamers 64; turns = min storm.turns 1000000 }
 
--- what is done with the audit of a file: the storm goes on from its end, or a fault is reported
-abbrev pub StormsAfter : Result TranscriptEnd AuditFault → ResumedStorm → WrittenBytes → WrittenBytes → WrittenBytes → WriterState → ℕ → Type 0
-StormsAfter (Ok end) storm old new before after status =
-    MayGoOn end × PlaysStormFrom (storm_from end storm) (length storm.scripts) old new before after status
-StormsAfter (Err fault) storm old new before after status = TellsAuditFault storm.from fault old new before after status
+-- What is done with the audit of a file with these bytes: the storm goes on from its end, or a fault is reported.
+-- The auditor accepts what was written, and also behind these bytes if the storm dropped nothing.
+abbrev pub StormsAfter : List ℕ → Result TranscriptEnd AuditFault → ResumedStorm → WrittenBytes → WrittenBytes → WrittenBytes → WriterState → ℕ → Type 0
+StormsAfter bytes (Ok end) storm old new before after status =
+    MayGoOn end × PlaysStormFrom (IsAcceptedLogBehind bytes end (options_at (storm_from end storm))) (storm_from end storm) (length storm.scripts) old new before after status
+StormsAfter bytes (Err fault) storm old new before after status = TellsAuditFault storm.from fault old new before after status
 
 -- An open file had this left, if that is known. It was audited: the storm goes on from the end of the run whose
 -- transcript the audited bytes are, or they have the damage that is reported.
 abbrev pub StormsOpened : Option (List ℕ) → ResumedStorm → WrittenBytes → WrittenBytes → WrittenBytes → WriterState → ℕ → Type 0
 StormsOpened left storm old new before after status =
-    (bytes : List ℕ) × (audited : Result TranscriptEnd AuditFault) × IsAuditOf left bytes audited × StormsAfter audited storm old new before after status
+    (bytes : List ℕ) × (audited : Result TranscriptEnd AuditFault) × IsAuditOf left bytes audited × StormsAfter bytes audited storm old new before after status
 
 -- The file could not be opened, which is reported as a failed read; or the storm went on from what it had left.
 -- No contract can say what a file has left, so this holds for the bytes that were read.

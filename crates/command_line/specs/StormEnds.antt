@@ -1,7 +1,8 @@
 -- How a storm ends: what the writers have, and the exit status.
 use Rattle.std.specs.Prelude.{◌≡◌, ◌<◌, ℕ, List, length, Result, Err}
-use Rattle.script_run.specs.Restarts.{RestartView, options_at}
+use Rattle.script_run.specs.Restarts.{RestartView}
 use Rattle.script_run.specs.RunOptions.{OptionsView}
+use Rattle.step_log.specs.RetainedLogs.{RetainedLog}
 use Rattle.storm_runner.specs.declared.fault.StormFault.{StormFault}
 use Rattle.storm_runner.specs.declared.fault.StormFault.TheVariants.{Read, Memory}
 use Rattle.storm_runner.specs.FaultText.{end_line}
@@ -38,10 +39,10 @@ abbrev pub PlaysStorm : OptionsView → ℕ → WrittenBytes → WrittenBytes �
 PlaysStorm asked scripts old new before after status =
     (ended : Result Unit StormFault) × EndsStorm asked scripts old new ended × TellsStormEnd ended before after status
 
--- the same of a storm that goes on
-abbrev pub EndsStormFrom : RestartView → ℕ → WrittenBytes → WrittenBytes → Result Unit StormFault → Type 0
-EndsStormFrom restart scripts old new ended = (texts : List WrittenBytes) × (length texts ≡ scripts) × IsResumedStorm restart texts old new ended × WritesAccepted (IsAcceptedLog (options_at restart)) (resumed_start restart) texts old new ended
+-- the same of a storm that goes on, whose kept log is accepted so
+abbrev pub EndsStormFrom : (RetainedLog → Type 0) → RestartView → ℕ → WrittenBytes → WrittenBytes → Result Unit StormFault → Type 0
+EndsStormFrom Accepted restart scripts old new ended = (texts : List WrittenBytes) × (length texts ≡ scripts) × IsResumedStorm restart texts old new ended × WritesAccepted Accepted (resumed_start restart) texts old new ended
 
-abbrev pub PlaysStormFrom : RestartView → ℕ → WrittenBytes → WrittenBytes → WrittenBytes → WriterState → ℕ → Type 0
-PlaysStormFrom restart scripts old new before after status =
-    (ended : Result Unit StormFault) × EndsStormFrom restart scripts old new ended × TellsStormEnd ended before after status
+abbrev pub PlaysStormFrom : (RetainedLog → Type 0) → RestartView → ℕ → WrittenBytes → WrittenBytes → WrittenBytes → WriterState → ℕ → Type 0
+PlaysStormFrom Accepted restart scripts old new before after status =
+    (ended : Result Unit StormFault) × EndsStormFrom Accepted restart scripts old new ended × TellsStormEnd ended before after status

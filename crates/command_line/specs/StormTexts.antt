@@ -1,10 +1,13 @@
 -- What a storm has written, judged by the auditor.
-use Rattle.std.specs.Prelude.{◌≡◌, ℕ, ◌⊎◌, List, length, Option, None, Some, Result, Ok, Err}
+use Rattle.std.specs.Prelude.{◌≡◌, ℕ, ◌+◌, ◌⊎◌, List, ◌++◌, length, Option, None, Some, Result, Ok, Err}
 use Rattle.std.specs.Io.KnownBytes.{Appends, Keeps}
 use Rattle.byte_streams.specs.PartialOutput.{AppendsBeginning}
+use Rattle.rule_machine.specs.Base.{base_of}
 use Rattle.rule_machine.specs.Tables.{table_of, weight_of}
 use Rattle.auditor.specs.declared.summary.Summary.{Summary}
+use Rattle.auditor.specs.declared.transcript_end.TranscriptEnd.{TranscriptEnd}
 use Rattle.auditor.specs.AcceptedRuns.{IsAccepted}
+use Rattle.auditor.specs.TranscriptEnds.{end_moment}
 use Rattle.step_log.specs.RetainedLogs.{RetainedLog}
 use Rattle.locked_net.specs.declared.call_fault.CallFault.{CallFault}
 use Rattle.locked_net.specs.declared.call_fault.CallFault.TheVariants as call
@@ -18,6 +21,14 @@ use Rattle.storm_runner.specs.declared.fault.StormFault.TheVariants.{TooManyScri
 -- the auditor accepts the text of a kept log, and counts its entries
 abbrev pub IsAcceptedLog : OptionsView → RetainedLog → Type 0
 IsAcceptedLog asked kept = (c : Summary) × IsAccepted (text_of asked kept) c × (c.entries ≡ length kept.entries)
+
+-- The auditor accepts the text of the kept log. If the log begins with the base of this end, as it does until a
+-- checkpoint drops that base, the auditor also accepts the first text with that of the log appended, and counts
+-- the entries of both.
+abbrev pub IsAcceptedLogBehind : List ℕ → TranscriptEnd → OptionsView → RetainedLog → Type 0
+IsAcceptedLogBehind first end asked kept =
+    IsAcceptedLog asked kept × (kept.base ≡ Some (base_of end.number (end_moment end).moment)
+    → (c : Summary) × IsAccepted (first ++ text_of asked kept) c × (c.entries ≡ end.summary.entries + length kept.entries))
 
 -- The scripts are those of the texts, and they leave a kept log with this fault. It is accepted so, and P holds of
 -- its text.

@@ -25,7 +25,7 @@ ghost use Rattle.script_text.specs.declared.command.Command.{Command};
 ghost use Rattle.step_log.specs.declared.fault.RecordFault.{RecordFault};
 ghost use Rattle.storm_runner.specs.declared.fault.StormFault.{StormFault};
 ghost use Rattle.storm_runner.specs.Outcome.{IsResumedStorm, IsStormOutcome, opening_start, resumed_start};
-ghost use Rattle.command_line.specs.StormTexts.{IsAcceptedLog, WritesAccepted};
+ghost use Rattle.command_line.specs.StormTexts.{IsAcceptedLog, IsAcceptedLogBehind, WritesAccepted};
 ghost use Rattle.command_line.specs.Written.{EndsAcceptedFrom, IsAcceptedBehind, IsAcceptedRun, IsWrittenBehind, entries_before, LinesReachEnd, log_text, start_behind, without_text};
 
 /// What lines append to a transcript is a transcript again.
@@ -108,11 +108,15 @@ pub fn outcomes_are_accepted()
 /// However a storm ends, what it has written is an accepted text, or a beginning of one, or nothing.
 ///
 /// A beginning only if the writer failed. The auditor counts the entries of the kept log. The first clause is for
-/// what `storm_runner::storm` ensures, the second for `resume_storm`.
+/// what `storm_runner::storm` ensures, the others for `resume_storm`. By the last one also `cat FIRST STORM` is
+/// accepted, if the log begins with the base of the end of FIRST, that is, if no checkpoint has dropped entries.
 pub fn storms_are_accepted()
     ensures storm { (asked : OptionsView) (texts : List (Option (List ℕ))) (old new : Option (List ℕ)) (result : Result Unit StormFault)
         → asked.present ≤ asked.nodes → IsStormOutcome asked texts old new result
         → WritesAccepted (IsAcceptedLog asked) (opening_start asked) texts old new result }
     ensures resumed { (from : RestartView) (texts : List (Option (List ℕ))) (old new : Option (List ℕ)) (result : Result Unit StormFault)
         → IsResumedStorm from texts old new result → WritesAccepted (IsAcceptedLog (options_at from)) (resumed_start from) texts old new result }
+    ensures joined { (first : List ℕ) (end : TranscriptEnd) (from : RestartView) (texts : List (Option (List ℕ))) (old new : Option (List ℕ)) (result : Result Unit StormFault)
+        → IsTranscriptEnd first end → from.rules ≡ end.rules → from.state ≡ end.net.state → IsResumedStorm from texts old new result
+        → WritesAccepted (IsAcceptedLogBehind first end (options_at from)) (resumed_start from) texts old new result }
 {}

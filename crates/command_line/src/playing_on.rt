@@ -7,7 +7,8 @@ ghost use Rattle.command_line.specs.ResumeEnds.{ResumesStorm, StormsOpened, stor
 ghost use Rattle.command_line.specs.Status.{IsStatus};
 ghost use Rattle.command_line.specs.StormEnds.{EndsStormFrom};
 ghost use Rattle.command_line.specs.WriterStates.{heard};
-ghost use Rattle.script_run.specs.Restarts.{restart_of};
+ghost use Rattle.command_line.specs.StormTexts.{IsAcceptedLog};
+ghost use Rattle.script_run.specs.Restarts.{options_at, restart_of};
 
 use crate::file_fault::{file_fault, tell_unread};
 use crate::playing::{Unread, open_all, tell_end};
@@ -32,7 +33,7 @@ fn play_files_from<'a, Out: Write, T: Threads + Wait + Sync + Files>(
     names: &[&'a str],
     writer: &mut FailStopWriter<Out>,
 ) -> (Result<(), StormFault>, Unread<'a>)
-    ensures { EndsStormFrom (restart_of restart) (length names.now) (Out.contents writer.old.writer) (Out.contents writer.new.writer) result.0 }
+    ensures { EndsStormFrom (IsAcceptedLog (options_at (restart_of restart))) (restart_of restart) (length names.now) (Out.contents writer.old.writer) (Out.contents writer.new.writer) result.0 }
 {
     match open_all(rt, alloc, names) {
         Ok(files) => (
