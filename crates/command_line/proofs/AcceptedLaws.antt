@@ -36,7 +36,7 @@ accepted bytes rules o log end is = record {
 }
 
 -- all of a run's entries, but for those that its opening has dropped
-counted : (bytes : List ℕ) (rules : RuleSet) (o : Opening) (log : List LogPart) (end : NumberedMoment) (is : IsTranscript bytes rules o log end) → end.count ≡ is.start.count + length (entries_in log)
+pub counted : (bytes : List ℕ) (rules : RuleSet) (o : Opening) (log : List LogPart) (end : NumberedMoment) (is : IsTranscript bytes rules o log end) → end.count ≡ is.start.count + length (entries_in log)
 counted bytes rules o log end is = (passes_run (table_of rules) is.start end log is.passes).1
 
 -- ---- a run from the beginning

@@ -1,5 +1,5 @@
 -- The text of a session is a transcript, call by call.
-use Rattle.std.proofs.Common.{ℕ, ◌≤◌, List, ◌++◌, Result, refl, sym, subst, append-nil}
+use Rattle.std.proofs.Common.{◌≡◌, ℕ, ◌+◌, ◌≤◌, List, ◌++◌, Result, refl, sym, subst, append-nil, arith}
 use Rattle.rule_machine.specs.Base.{entries_in}
 use Rattle.rule_machine.specs.Tables.{table_of}
 use Rattle.entry_grammar.specs.Spelling.{max_entries}
@@ -13,8 +13,8 @@ use Rattle.auditor.specs.declared.summary.Summary.{Summary}
 use Rattle.auditor.specs.AcceptedRuns.{IsAccepted}
 use Rattle.auditor.specs.Parts.{Opening}
 use Rattle.auditor.specs.Transcript.{IsTranscript}
-use Rattle.command_line.specs.Written.{IsWrittenBehind, moment_of, without_text}
-use Rattle.command_line.proofs.AcceptedLaws.{accepted, summary_of}
+use Rattle.command_line.specs.Written.{IsWrittenBehind, entries_before, moment_of, without_text}
+use Rattle.command_line.proofs.AcceptedLaws.{accepted, counted, summary_of}
 use Rattle.command_line.proofs.AcceptedLines.{command_ended, line_ended}
 
 pub line_stays : (first : List ℕ) (o : Opening) (limit number : ℕ) (line : List ℕ) (before after : Progress) (result : Result Unit LineError) → limit ≤ max_entries → IsWrittenBehind first o before → LineEnds (table_of before.rules) limit number line before after result → IsWrittenBehind first o after
@@ -29,6 +29,8 @@ pub text_taken : (first : List ℕ) (o : Opening) (p : Progress) → IsWrittenBe
 text_taken first o p (log, is) =
     (log, subst (λ (l : List ℕ). IsTranscript l p.rules o log (moment_of p)) (sym (append-nil (first ++ p.text))) is)
 
-pub text_accepted : (first : List ℕ) (o : Opening) (p : Progress) → IsWrittenBehind first o p → (c : Summary) × IsAccepted (first ++ p.text) c
+pub text_accepted : (first : List ℕ) (o : Opening) (p : Progress) → IsWrittenBehind first o p → (c : Summary) × IsAccepted (first ++ p.text) c × (c.entries + entries_before o ≡ p.count)
 text_accepted first o p (log, is) =
-    (summary_of (entries_in log), accepted (first ++ p.text) p.rules o log (moment_of p) is)
+    let all = counted (first ++ p.text) p.rules o log (moment_of p) is in
+    let before = is.opens.count in
+    (summary_of (entries_in log), accepted (first ++ p.text) p.rules o log (moment_of p) is, omega (arith, all, before))

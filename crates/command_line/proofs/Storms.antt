@@ -2,8 +2,10 @@
 use Rattle.std.proofs.Common.{◌≡◌, ◌∙◌, ◌≤◌, ℕ, List, [], length, map, replicate, None, Result, Ok, Err, inl, inr, ap, arith, refl, subst, sym}
 use Rattle.std.proofs.KnownBytes.{Keeps-refl}
 use Rattle.std.proofs.lemmas.List.{length-map, length-replicate}
-use Rattle.script_run.specs.Restarts.{RestartView}
+use Rattle.script_run.specs.Restarts.{RestartView, options_at}
 use Rattle.script_run.specs.RunOptions.{OptionsView}
+use Rattle.step_log.specs.RetainedLogs.{RetainedLog}
+use Rattle.command_line.specs.StormTexts.{IsAcceptedLog}
 use Rattle.storm_runner.specs.declared.fault.StormFault.{StormFault}
 use Rattle.storm_runner.specs.declared.fault.StormFault.TheVariants.{TooManyScripts, BadLine, LogFull, Read, Write, Memory, Behind, Thread, Unsettled}
 use Rattle.storm_runner.specs.FaultText.{end_line}
@@ -33,21 +35,21 @@ unopened asked files old Thread some = absurd some
 unopened asked files old (Unsettled why) some = absurd some
 
 -- so does one of a storm that goes on
-pub unopened_from : (restart : RestartView) (files : ℕ) (old : WrittenBytes) (fault : StormFault) → FailsToOpen files fault → EndsStormFrom restart files old old (Err fault)
-unopened_from restart files old Read some =
+pub unopened_from : (Accepted : RetainedLog → Type 0) (restart : RestartView) (files : ℕ) (old : WrittenBytes) (fault : StormFault) → FailsToOpen files fault → EndsStormFrom Accepted restart files old old (Err fault)
+unopened_from Accepted restart files old Read some =
     let none : WrittenBytes = None in
     let count = length-replicate files none in
     (replicate files none, count, (λ e. omega (arith, some, count, ap (λ (l : List WrittenBytes). length l) e), Keeps-refl old), Keeps-refl old)
-unopened_from restart files old Memory some =
+unopened_from Accepted restart files old Memory some =
     let none : WrittenBytes = None in
     (replicate files none, length-replicate files none, inr (Keeps-refl old), inr (Keeps-refl old))
-unopened_from restart files old TooManyScripts some = absurd some
-unopened_from restart files old (BadLine script line) some = absurd some
-unopened_from restart files old LogFull some = absurd some
-unopened_from restart files old Write some = absurd some
-unopened_from restart files old Behind some = absurd some
-unopened_from restart files old Thread some = absurd some
-unopened_from restart files old (Unsettled why) some = absurd some
+unopened_from Accepted restart files old TooManyScripts some = absurd some
+unopened_from Accepted restart files old (BadLine script line) some = absurd some
+unopened_from Accepted restart files old LogFull some = absurd some
+unopened_from Accepted restart files old Write some = absurd some
+unopened_from Accepted restart files old Behind some = absurd some
+unopened_from Accepted restart files old Thread some = absurd some
+unopened_from Accepted restart files old (Unsettled why) some = absurd some
 
 -- the storm of the files that were opened: the auditor accepts what it wrote
 pub played : {File : Type 0} (left : File → WrittenBytes) (files : List File) (asked : OptionsView) (names : ℕ) (old new : WrittenBytes) (ended : Result Unit StormFault) → asked.present ≤ asked.nodes → length files ≡ names → IsStormOutcome asked (map left files) old new ended → EndsStorm asked names old new ended
@@ -55,7 +57,7 @@ played {File} left files asked names old new ended within count ends =
     (map left files, length-map files left ∙ count, ends, storm_accepted (opening_start asked) (map left files) within old new ended ends)
 
 -- so it does for a storm that goes on
-pub played_on : {File : Type 0} (left : File → WrittenBytes) (files : List File) (restart : RestartView) (names : ℕ) (old new : WrittenBytes) (ended : Result Unit StormFault) → length files ≡ names → IsResumedStorm restart (map left files) old new ended → EndsStormFrom restart names old new ended
+pub played_on : {File : Type 0} (left : File → WrittenBytes) (files : List File) (restart : RestartView) (names : ℕ) (old new : WrittenBytes) (ended : Result Unit StormFault) → length files ≡ names → IsResumedStorm restart (map left files) old new ended → EndsStormFrom (IsAcceptedLog (options_at restart)) restart names old new ended
 played_on {File} left files restart names old new ended count ends =
     (map left files, length-map files left ∙ count, ends, resumed_storm_accepted restart (map left files) old new ended ends)
 

@@ -1,15 +1,15 @@
 -- How the program ends: what the writers have, and the exit status.
 use Rattle.std.specs.Prelude.{◌≡◌, ℕ, List, length, Option, None, Some, Result, Ok, Err, IfOk}
-use Rattle.std.specs.Io.KnownBytes.{Appends, Keeps}
-use Rattle.byte_streams.specs.PartialOutput.{AppendsBeginning}
+use Rattle.std.specs.Io.KnownBytes.{Keeps}
 use Rattle.clap.specs.declared.error.kind.ErrorKind.{ErrorKind}
 use Rattle.clap.specs.declared.error.kind.ErrorKind.TheVariants.{OutOfMemory}
 use Rattle.rule_machine.specs.declared.rule_set.RuleSet.{RuleSet}
+use Rattle.rule_machine.specs.Tables.{table_of}
 use Rattle.script_run.specs.declared.fault.RunFault.{RunFault}
 use Rattle.script_run.specs.declared.fault.RunFault.TheVariants.{Memory}
 use Rattle.script_run.specs.Outcome.{IsRunOutcome}
-use Rattle.audit_parts.specs.Laws.{IsAcceptedText}
-use Rattle.command_line.specs.Written.{EndsAccepted}
+use Rattle.run_session.specs.RunStart.{first_progress}
+use Rattle.command_line.specs.Written.{EndsAcceptedFrom, IsAcceptedRun}
 use Rattle.cli_args.specs.declared.task.Task.{Task}
 use Rattle.cli_args.specs.declared.task.Task.TheVariants as variants
 use Rattle.cli_args.specs.declared.task.Task.TheVariants.{Run, Resume, Audit, Picture, Epochs, ResumeStorm, Show}
@@ -32,11 +32,11 @@ checked_status (Ok end) = verdict_status end
 checked_status (Err fault) = run_status fault
 
 -- The script was run, the writer has its transcript, a fault was reported, perhaps with why a line is bad, and
--- the exit status fits. The auditor accepts what was written; if the writer failed or memory ran out, it accepts
--- a text that begins so.
+-- the exit status fits. The auditor accepts what was written, and counts the entries of the run; if the writer
+-- failed or memory ran out, it accepts a text that begins so.
 abbrev pub TellsOutcome : RuleSet → ℕ → ℕ → ℕ → List ℕ → WrittenBytes → WrittenBytes → WrittenBytes → WriterState → ℕ → Type 0
 TellsOutcome rules nodes present limit script old new before after status =
-    (ended : Result Unit RunFault) × IsRunOutcome rules nodes present limit script old new ended × EndsAccepted ended IsAcceptedText (Appends old new) (AppendsBeginning old new) × TellsRunEnd ended before after × (status ≡ ended_status ended)
+    (ended : Result Unit RunFault) × IsRunOutcome rules nodes present limit script old new ended × EndsAcceptedFrom (table_of rules) limit (first_progress rules nodes present) IsAcceptedRun script old new ended × TellsRunEnd ended before after × (status ≡ ended_status ended)
 
 -- too many nodes for the start are reported, nothing is read, and nothing is written to the writer
 abbrev pub TellsBadPresent : WrittenBytes → WrittenBytes → WrittenBytes → WriterState → ℕ → Type 0

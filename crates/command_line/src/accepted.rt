@@ -1,8 +1,6 @@
 //! Laws of the texts that runs write: each function does nothing, and its contract is the law.
 
 ghost use Rattle.std.specs.Prelude.{◌≡◌, ◌≤◌, ◌+◌, ℕ, List, [], ◌++◌, length, Option, Result};
-ghost use Rattle.std.specs.Io.KnownBytes.{Appends};
-ghost use Rattle.byte_streams.specs.PartialOutput.{AppendsBeginning};
 ghost use Rattle.std.specs.List.{AllByRecursion};
 ghost use Rattle.rule_machine.specs.Base.{base_of};
 ghost use Rattle.rule_machine.specs.declared.rule_set.RuleSet.{RuleSet};
@@ -19,17 +17,16 @@ ghost use Rattle.run_session.specs.RunStart.{first_progress};
 ghost use Rattle.run_session.specs.declared.line_error.LineError.{LineError};
 ghost use Rattle.script_run.specs.declared.fault.RunFault.{RunFault};
 ghost use Rattle.script_run.specs.Outcome.{EndsFrom, IsRunOutcome};
-ghost use Rattle.script_run.specs.Restarts.{RestartView};
+ghost use Rattle.script_run.specs.Restarts.{RestartView, options_at};
 ghost use Rattle.script_run.specs.RunOptions.{OptionsView};
 ghost use Rattle.script_text.specs.Command.{IsCommand};
 ghost use Rattle.script_text.specs.Script.{Progress};
 ghost use Rattle.script_text.specs.declared.command.Command.{Command};
 ghost use Rattle.step_log.specs.declared.fault.RecordFault.{RecordFault};
 ghost use Rattle.storm_runner.specs.declared.fault.StormFault.{StormFault};
-ghost use Rattle.storm_runner.specs.Outcome.{IsResumedStorm, IsStormOutcome};
-ghost use Rattle.command_line.specs.StormTexts.{WritesAccepted};
-ghost use Rattle.audit_parts.specs.Laws.{IsAcceptedText};
-ghost use Rattle.command_line.specs.Written.{EndsAccepted, IsWrittenBehind, LinesReachEnd, log_text, start_behind, without_text};
+ghost use Rattle.storm_runner.specs.Outcome.{IsResumedStorm, IsStormOutcome, opening_start, resumed_start};
+ghost use Rattle.command_line.specs.StormTexts.{IsAcceptedLog, IsAcceptedLogBehind, WritesAccepted};
+ghost use Rattle.command_line.specs.Written.{EndsAcceptedFrom, IsAcceptedBehind, IsAcceptedRun, IsWrittenBehind, entries_before, LinesReachEnd, log_text, start_behind, without_text};
 
 /// What lines append to a transcript is a transcript again.
 ///
@@ -43,7 +40,8 @@ pub fn runs_stay_transcripts()
 ///
 /// `first` is what was taken of the session's text. `line` is for what `Run::carry_out` ensures, and
 /// `command` for a command that is carried out alone: each also if the log is full, or memory runs out.
-/// Whenever it is read, `first` with the text that was not taken is accepted.
+/// Whenever it is read, `first` with the text that was not taken is accepted. The auditor counts the entries of the
+/// session, but for those that a base at the beginning has dropped.
 pub fn sessions_stay_transcripts()
     ensures begins { (rules : RuleSet) (nodes present : ℕ)
         → nodes ≤ 65535 → present ≤ nodes → IsWrittenBehind [] (Named nodes present) (first_progress rules nodes present) }
@@ -58,7 +56,7 @@ pub fn sessions_stay_transcripts()
     ensures taken { (first : List ℕ) (opening : Opening) (p : Progress)
         → IsWrittenBehind first opening p → IsWrittenBehind (first ++ p.text) opening (without_text p) }
     ensures accepted { (first : List ℕ) (opening : Opening) (p : Progress)
-        → IsWrittenBehind first opening p → (c : Summary) × IsAccepted (first ++ p.text) c }
+        → IsWrittenBehind first opening p → (c : Summary) × IsAccepted (first ++ p.text) c × (c.entries + entries_before opening ≡ p.count) }
 {}
 
 /// The auditor accepts the text of a run: the header, and what the lines append to it.
@@ -95,25 +93,30 @@ pub fn kept_logs_are_accepted()
 
 /// However the run of a script ends, what it has written is an accepted text, or a beginning of one.
 ///
-/// A beginning only if the writer failed or memory ran out. The first clause is for what
+/// A beginning only if the writer failed or memory ran out. The auditor counts the entries of the run. The first clause is for what
 /// `script_run::run` ensures, the second for `resume`: a resumed run's text is accepted alone, and
 /// appended to the text that it continues.
 pub fn outcomes_are_accepted()
     ensures run { (rules : RuleSet) (nodes present limit : ℕ) (script : List ℕ) (old new : Option (List ℕ)) (result : Result Unit RunFault)
         → nodes ≤ 65535 → present ≤ nodes → limit ≤ 16777216 → IsRunOutcome rules nodes present limit script old new result
-        → EndsAccepted result IsAcceptedText (Appends old new) (AppendsBeginning old new) }
+        → EndsAcceptedFrom (table_of rules) limit (first_progress rules nodes present) IsAcceptedRun script old new result }
     ensures resumed { (first : List ℕ) (from : TranscriptEnd) (limit : ℕ) (script : List ℕ) (old new : Option (List ℕ)) (result : Result Unit RunFault)
         → IsTranscriptEnd first from → limit ≤ 16777216 → EndsFrom (table_of from.rules) limit (start_behind from) script old new result
-        → EndsAccepted result (λ text. IsAcceptedText text × IsAcceptedText (first ++ text)) (Appends old new) (AppendsBeginning old new) }
+        → EndsAcceptedFrom (table_of from.rules) limit (start_behind from) (IsAcceptedBehind first from) script old new result }
 {}
 
 /// However a storm ends, what it has written is an accepted text, or a beginning of one, or nothing.
 ///
-/// A beginning only if the writer failed. The first clause is for what `storm_runner::storm` ensures, the second
-/// for `resume_storm`.
+/// A beginning only if the writer failed. The auditor counts the entries of the kept log. The first clause is for
+/// what `storm_runner::storm` ensures, the others for `resume_storm`. By the last one also `cat FIRST STORM` is
+/// accepted, if the log begins with the base of the end of FIRST, that is, if no checkpoint has dropped entries.
 pub fn storms_are_accepted()
     ensures storm { (asked : OptionsView) (texts : List (Option (List ℕ))) (old new : Option (List ℕ)) (result : Result Unit StormFault)
-        → asked.present ≤ asked.nodes → IsStormOutcome asked texts old new result → WritesAccepted old new result }
+        → asked.present ≤ asked.nodes → IsStormOutcome asked texts old new result
+        → WritesAccepted (IsAcceptedLog asked) (opening_start asked) texts old new result }
     ensures resumed { (from : RestartView) (texts : List (Option (List ℕ))) (old new : Option (List ℕ)) (result : Result Unit StormFault)
-        → IsResumedStorm from texts old new result → WritesAccepted old new result }
+        → IsResumedStorm from texts old new result → WritesAccepted (IsAcceptedLog (options_at from)) (resumed_start from) texts old new result }
+    ensures joined { (first : List ℕ) (end : TranscriptEnd) (from : RestartView) (texts : List (Option (List ℕ))) (old new : Option (List ℕ)) (result : Result Unit StormFault)
+        → IsTranscriptEnd first end → from.rules ≡ end.rules → from.state ≡ end.net.state → IsResumedStorm from texts old new result
+        → WritesAccepted (IsAcceptedLogBehind first end (options_at from)) (resumed_start from) texts old new result }
 {}

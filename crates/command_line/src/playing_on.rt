@@ -3,20 +3,23 @@
 ghost use Rattle.std.specs.Prelude.{◌≡◌, length};
 ghost use Rattle.auditor.specs.TranscriptEnds.{MayGoOn};
 ghost use Rattle.cli_args.specs.TaskWords.{resumed_storm_of};
-ghost use Rattle.command_line.specs.ResumeEnds.{ResumesStorm, storm_from};
+ghost use Rattle.command_line.specs.ResumeEnds.{ResumesStorm, StormsOpened, storm_from};
 ghost use Rattle.command_line.specs.Status.{IsStatus};
 ghost use Rattle.command_line.specs.StormEnds.{EndsStormFrom};
 ghost use Rattle.command_line.specs.WriterStates.{heard};
-ghost use Rattle.script_run.specs.Restarts.{restart_of};
+ghost use Rattle.command_line.specs.StormTexts.{IsAcceptedLog};
+ghost use Rattle.script_run.specs.Restarts.{options_at, restart_of};
 
+use crate::file_fault::{file_fault, tell_unread};
 use crate::playing::{Unread, open_all, tell_end};
-use crate::resuming::{end_of_file, refuse_file, restart_at};
+use crate::resuming::{end_in, refuse_file, restart_at};
 use auditor::TranscriptEnd;
 use byte_streams::FailStopWriter;
 use cli_args::ResumeStormWords;
 use script_run::Restart;
 use std::alloc::Global;
-use std::io::Write;
+use std::fs::File;
+use std::io::{Read, Write};
 use std::rt::Files;
 use std::sync::Wait;
 use std::thread::Threads;
@@ -30,7 +33,7 @@ fn play_files_from<'a, Out: Write, T: Threads + Wait + Sync + Files>(
     names: &[&'a str],
     writer: &mut FailStopWriter<Out>,
 ) -> (Result<(), StormFault>, Unread<'a>)
-    ensures { EndsStormFrom (restart_of restart) (length names.now) (Out.contents writer.old.writer) (Out.contents writer.new.writer) result.0 }
+    ensures { EndsStormFrom (IsAcceptedLog (options_at (restart_of restart))) (restart_of restart) (length names.now) (Out.contents writer.old.writer) (Out.contents writer.new.writer) result.0 }
 {
     match open_all(rt, alloc, names) {
         Ok(files) => (
@@ -46,6 +49,34 @@ fn storm_restart(end: TranscriptEnd, asked: &ResumeStormWords<'_>) -> Restart
     ensures { restart_of result ≡ storm_from end (resumed_storm_of asked.now) }
 {
     restart_at(end, asked.workers).with_roam(u32::from(asked.roamers), asked.turns)
+}
+
+fn resume_storm_opened<
+    Opened: Read + Drop,
+    Out: Write,
+    Faults: Write,
+    T: Threads + Wait + Sync + Files,
+>(
+    rt: &T,
+    alloc: Global,
+    asked: &ResumeStormWords<'_>,
+    opened: Opened,
+    writer: &mut FailStopWriter<Out>,
+    faults: &mut FailStopWriter<Faults>,
+) -> u8
+    ensures resumed { StormsOpened (Opened.remaining opened) (resumed_storm_of asked.now) (Out.contents writer.old.writer) (Out.contents writer.new.writer)
+        (Faults.contents faults.old.writer) (heard Faults.contents faults.new) result }
+    ensures status { IsStatus result }
+{
+    let mut why = None;
+    match end_in(alloc, opened, &mut why) {
+        Ok(end) => {
+            let restart = storm_restart(end, asked);
+            let (ended, unread) = play_files_from(rt, alloc, restart, &asked.scripts, writer);
+            tell_end(alloc, ended, unread, faults)
+        }
+        Err(fault) => refuse_file(alloc, asked.from, fault, why, faults),
+    }
 }
 
 /// Plays a storm from where the run of a file ended, and returns the exit status.
@@ -70,13 +101,8 @@ pub fn resume_storm_file<Out: Write, Faults: Write, T: Threads + Wait + Sync + F
         (Faults.contents faults.old.writer) (heard Faults.contents faults.new) result }
     ensures status { IsStatus result }
 {
-    let mut why = None;
-    match end_of_file(rt, alloc, asked.from, &mut why) {
-        Ok(end) => {
-            let restart = storm_restart(end, &asked);
-            let (ended, unread) = play_files_from(rt, alloc, restart, &asked.scripts, writer);
-            tell_end(alloc, ended, unread, faults)
-        }
-        Err(fault) => refuse_file(alloc, asked.from, fault, why, faults),
+    match File::open(rt, asked.from) {
+        Ok(opened) => resume_storm_opened(rt, alloc, &asked, opened, writer, faults),
+        Err(error) => tell_unread(alloc, asked.from, Some(file_fault(error.kind())), faults),
     }
 }

@@ -2,10 +2,10 @@
 
 ghost use Rattle.std.specs.Prelude.{◌≡◌, ◌⊎◌, ℕ, List, IfOk, IfSome, OnErr};
 ghost use Rattle.rule_machine.specs.Tables.{table_of};
-ghost use Rattle.auditor.specs.TranscriptEnds.{IsEndResult, MayGoOn};
+ghost use Rattle.auditor.specs.TranscriptEnds.{MayGoOn};
 ghost use Rattle.script_run.specs.Restarts.{restart_of, restarted};
 ghost use Rattle.command_line.specs.FaultText.{run_fault_line};
-ghost use Rattle.command_line.specs.ResumeEnds.{ResumesFile, TellsAuditFault, TellsRunFrom, damaged_line, restart_from, start_at};
+ghost use Rattle.command_line.specs.ResumeEnds.{IsAuditOf, ResumesFile, ResumesOpened, TellsAuditFault, TellsRunFrom, damaged_line, restart_from, start_at};
 ghost use Rattle.command_line.specs.Status.{IsRunStatus, IsStatus};
 ghost use Rattle.command_line.specs.WriterStates.{heard, WrittenBytes, WritesLine};
 
@@ -24,38 +24,19 @@ use std::rt::Files;
 use std::sync::Wait;
 use std::thread::Threads;
 
-// Sets `why` if a read fails.
-fn end_in<File: Read + Drop>(
+/// Where the run of an open file ends. Sets `why` if a read fails.
+pub(crate) fn end_in<Opened: Read + Drop>(
     alloc: Global,
-    file: File,
+    opened: Opened,
     why: &mut Option<FileFault>,
 ) -> Result<TranscriptEnd, AuditFault>
-    ensures audited { (bytes : List ℕ) × IsEndResult bytes result }
+    ensures audited { (bytes : List ℕ) × IsAuditOf (Opened.remaining opened) bytes result }
     ensures goes_on { IfOk result MayGoOn }
 {
-    let mut noting = NotingFile::new(file);
+    let mut noting = NotingFile::new(opened);
     let end = end_of(alloc, &mut CountingReader::new(&mut noting));
     *why = noting.fault;
     end
-}
-
-/// Where the run of the file ended; `Read` if the file cannot be opened or read, and `why` is set then.
-pub(crate) fn end_of_file<T: Files>(
-    rt: &T,
-    alloc: Global,
-    file: &str,
-    why: &mut Option<FileFault>,
-) -> Result<TranscriptEnd, AuditFault>
-    ensures audited { (bytes : List ℕ) × IsEndResult bytes result }
-    ensures goes_on { IfOk result MayGoOn }
-{
-    match File::open(rt, file) {
-        Ok(opened) => end_in(alloc, opened, why),
-        Err(error) => {
-            *why = Some(file_fault(error.kind()));
-            Err(AuditFault::Read)
-        }
-    }
 }
 
 fn damaged_line(alloc: Global, file: &str, damage: AuditFault) -> Result<Vec<u8>, AllocError>
@@ -149,6 +130,34 @@ fn run_from<In: Read, Out: Write, Faults: Write, T: Threads + Wait + Sync>(
     }
 }
 
+fn resume_opened<
+    Opened: Read + Drop,
+    In: Read,
+    Out: Write,
+    Faults: Write,
+    T: Threads + Wait + Sync,
+>(
+    rt: &T,
+    alloc: Global,
+    file: &str,
+    opened: Opened,
+    workers: u16,
+    reader: &mut CountingReader<In>,
+    writer: &mut FailStopWriter<Out>,
+    faults: &mut FailStopWriter<Faults>,
+) -> u8
+    ensures resumed { IfSome (In.remaining reader.old.reader) (λ script. ResumesOpened (Opened.remaining opened) file.now script
+        (Out.contents writer.old.writer) (Out.contents writer.new.writer)
+        (Faults.contents faults.old.writer) (heard Faults.contents faults.new) result) }
+    ensures status { IsStatus result }
+{
+    let mut why = None;
+    match end_in(alloc, opened, &mut why) {
+        Ok(end) => run_from(rt, alloc, restart_at(end, workers), reader, writer, faults),
+        Err(fault) => refuse_file(alloc, file, fault, why, faults),
+    }
+}
+
 /// Runs the script from where the run of a file ended, and returns the exit status.
 ///
 /// The file is a transcript or a base alone, and is audited first.
@@ -174,9 +183,8 @@ pub fn resume_file<In: Read, Out: Write, Faults: Write, T: Threads + Wait + Sync
         (Faults.contents faults.old.writer) (heard Faults.contents faults.new) result) }
     ensures status { IsStatus result }
 {
-    let mut why = None;
-    match end_of_file(rt, alloc, file, &mut why) {
-        Ok(end) => run_from(rt, alloc, restart_at(end, workers), reader, writer, faults),
-        Err(fault) => refuse_file(alloc, file, fault, why, faults),
+    match File::open(rt, file) {
+        Ok(opened) => resume_opened(rt, alloc, file, opened, workers, reader, writer, faults),
+        Err(error) => tell_unread(alloc, file, Some(file_fault(error.kind())), faults),
     }
 }

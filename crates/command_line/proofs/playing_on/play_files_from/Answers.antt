@@ -1,4 +1,5 @@
-use Rattle.script_run.specs.Restarts.{restart_of}
+use Rattle.script_run.specs.Restarts.{options_at, restart_of}
+use Rattle.command_line.specs.StormTexts.{IsAcceptedLog}
 use Rattle.std.proofs.Common.{length}
 use Rattle.command_line.proofs.Storms.{played_on, unopened_from}
 use Rattle.command_line.proofs.playing_on.play_files_from.Goals as goal
@@ -10,4 +11,4 @@ returns-in-Ok g c =
 
 pub returns-in-Err : goal.returns-in-Err
 returns-in-Err g c =
-    unopened_from (restart_of c.args.restart) (length c.args.names.now) (g.Out.Write.contents c.args.writer.now.writer) c.in-Err.fault c.in-Err.ensures.fault
+    unopened_from (IsAcceptedLog (options_at (restart_of c.args.restart))) (restart_of c.args.restart) (length c.args.names.now) (g.Out.Write.contents c.args.writer.now.writer) c.in-Err.fault c.in-Err.ensures.fault
