@@ -40,8 +40,8 @@ pub fn runs_stay_transcripts()
 ///
 /// `first` is what was taken of the session's text. `line` is for what `Run::carry_out` ensures, and
 /// `command` for a command that is carried out alone: each also if the log is full, or memory runs out.
-/// Whenever it is read, `first` with the text that was not taken is accepted. The auditor counts the entries of the
-/// session, but for those that a base at the beginning has dropped.
+/// Whenever it is read, `first` with the text that was not taken is accepted. The auditor counts the entries of
+/// the session, but for those that a base at the beginning has dropped.
 pub fn sessions_stay_transcripts()
     ensures begins { (rules : RuleSet) (nodes present : ℕ)
         → nodes ≤ 65535 → present ≤ nodes → IsWrittenBehind [] (Named nodes present) (first_progress rules nodes present) }
@@ -93,9 +93,9 @@ pub fn kept_logs_are_accepted()
 
 /// However the run of a script ends, what it has written is an accepted text, or a beginning of one.
 ///
-/// A beginning only if the writer failed or memory ran out. The auditor counts the entries of the run. The first clause is for what
-/// `script_run::run` ensures, the second for `resume`: a resumed run's text is accepted alone, and
-/// appended to the text that it continues.
+/// A beginning only if the writer failed or memory ran out. The auditor counts the entries of the run. The first
+/// clause is for what `script_run::run` ensures, the second for `resume`: a resumed run's text is accepted
+/// alone, and appended to the text that it continues.
 pub fn outcomes_are_accepted()
     ensures run { (rules : RuleSet) (nodes present limit : ℕ) (script : List ℕ) (old new : Option (List ℕ)) (result : Result Unit RunFault)
         → nodes ≤ 65535 → present ≤ nodes → limit ≤ 16777216 → IsRunOutcome rules nodes present limit script old new result
