@@ -41,7 +41,8 @@ fn remove_disabled(pending: &mut EnabledSet, enabled: &EnabledSet, around: &[Nod
     ensures places { length pending.new ≡ length pending.old }
 {
     for &w in around {
-        if !enabled.contains(w) {
+        // One branch, which is seldom taken.
+        if pending.contains(w) & !enabled.contains(w) {
             pending.remove(w);
         }
     }

@@ -1,13 +1,15 @@
--- The nodes that an event would reach.
-use Rattle.std.specs.Prelude.{ℕ, Bool, ◌&&◌, List, filter, Contains, IsTrue}
+-- The nodes that an event would reach, and nodes that stay as they are.
+use Rattle.std.specs.Prelude.{◌≡◌, ℕ, Bool, false, ◌&&◌, List, filter, Contains, IsTrue}
 use Rattle.rule_machine.specs.declared.event.Event.{Event}
 use Rattle.rule_machine.specs.Network.{names, present}
 use Rattle.rule_machine.specs.State.{State}
 use Rattle.rule_machine.specs.RuleTable.{RuleTable}
 use Rattle.rule_machine.specs.declared.reply.Reply.TheVariants.{Accepted}
 use Rattle.rule_machine.specs.Answer.{Answers}
+use Rattle.rule_machine.specs.Run.{Entry, Moment, Run}
+use Rattle.machine_laws.specs.ChargeWords.{IsUndisturbed}
 use Rattle.containment_laws.specs.Rest.{is_at_rest}
-use Rattle.containment_laws.specs.Movers.{KeepsRegisters}
+use Rattle.containment_laws.specs.Movers.{has_moved, KeepsRegisters}
 use Rattle.containment_laws.specs.Reach.{is_in_reach}
 use Rattle.rule_engine.specs.Costs.{disturbs}
 
@@ -25,3 +27,9 @@ Spares t s spent event reach =
     (after : State) → Answers t s spent event Accepted after
     → (v : ℕ) → IsTrue (present s.network v) → IsTrue (is_at_rest t.flags s v) → (Contains reach v → ⊥)
     → IsTrue (is_at_rest t.flags after v) × (IsTrue (present after.network v) → KeepsRegisters s after v)
+
+-- in any run from this moment without a disturbance v never moves, keeps its registers and ends at rest
+abbrev pub StaysAtRest : RuleTable → Moment → ℕ → Type 0
+StaysAtRest t m v =
+    (log : List Entry) (end : Moment) → Run t m log end → IsUndisturbed log
+    → (has_moved log v ≡ false) × KeepsRegisters m.state end.state v × IsTrue (is_at_rest t.flags end.state v)

@@ -20,7 +20,7 @@ ghost use Rattle.rule_engine.specs.EngineStates.{guard_at, IsAnswered};
 ghost use Rattle.rule_engine.specs.EventReplies.{StopsForMemory, counting_after_all, moment_after_all, takes_memory};
 ghost use Rattle.rule_engine.specs.ChoiceMoves.{verdict_of, verdicts_of};
 ghost use Rattle.rule_engine.specs.Costs.{disturbance_cost, BoundsGrowth};
-ghost use Rattle.rule_engine.specs.DisturbanceReach.{would_reach, reach_of, Spares};
+ghost use Rattle.rule_engine.specs.DisturbanceReach.{would_reach, reach_of, Spares, StaysAtRest};
 ghost use Rattle.containment_laws.specs.Reach.{reach_size};
 ghost use Rattle.containment_laws.specs.Rest.{is_at_rest};
 ghost use Rattle.rule_engine.specs.PreparedEvents.{IsPrepared, net_moment};
@@ -212,6 +212,7 @@ impl<R: Rules> Net<R> {
     pub fn is_at_rest(&self, v: Node) -> bool
         ensures rests { result ≡ is_at_rest R.table.flags self.now.state v }
         ensures idle { IsTrue result → rule_at R.table self.now.state v ≡ None }
+        ensures stays { IsTrue result → StaysAtRest R.table (net_moment self.now) v }
     {
         self.engine.is_at_rest(v)
     }

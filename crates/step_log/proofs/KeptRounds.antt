@@ -9,7 +9,7 @@ use Rattle.step_log.specs.JournalRounds.{CountsAfter, CountsKept, EndsDisturbed,
 -- ---- lists of entries
 
 -- where a list with one more entry is cut in two, that entry is the last of the second part, or ends the first
-ends_in : (before after all : List Entry) (e : Entry) → before ++ after ≡ all ++ e ∷ [] → ((after ≡ []) × (before ≡ all ++ e ∷ [])) ⊎ ((init : List Entry) × (after ≡ init ++ e ∷ []) × (before ++ init ≡ all))
+pub ends_in : (before after all : List Entry) (e : Entry) → before ++ after ≡ all ++ e ∷ [] → ((after ≡ []) × (before ≡ all ++ e ∷ [])) ⊎ ((init : List Entry) × (after ≡ init ++ e ∷ []) × (before ++ init ≡ all))
 ends_in [] after all e same = inr (all, same, refl)
 ends_in (b ∷ before) after [] e same = inl (none before after (ap (drop 1) same), ap₂ (λ (x : Entry) (l : List Entry). x ∷ l) (ap (λ l. get_or l 0 b) same) (first before after (ap (drop 1) same)))
   where
@@ -30,19 +30,19 @@ ends_in (b ∷ before) after (a ∷ all) e same = more (ends_in before after all
     more (inr (init, is, rest)) = inr (init, is, ap₂ (λ (x : Entry) (l : List Entry). x ∷ l) head rest)
 
 -- lists that are the same have the same last entry
-same_last : (xs ys : List Entry) (x y : Entry) → xs ++ x ∷ [] ≡ ys ++ y ∷ [] → x ≡ y
+pub same_last : (xs ys : List Entry) (x y : Entry) → xs ++ x ∷ [] ≡ ys ++ y ∷ [] → x ≡ y
 same_last [] [] x y same = ap (λ l. get_or l 0 x) same
 same_last [] (v ∷ ys) x y same = absurd (let n = ap length same in let m = length-append ys (y ∷ []) in omega (arith, n, m))
 same_last (u ∷ xs) [] x y same = absurd (let n = ap length same in let m = length-append xs (x ∷ []) in omega (arith, n, m))
 same_last (u ∷ xs) (v ∷ ys) x y same = same_last xs ys x y (ap (drop 1) same)
 
-not_disturbed : EndsDisturbed [] → ⊥
+pub not_disturbed : EndsDisturbed [] → ⊥
 not_disturbed ends = let n = ap length ends.are in let m = length-append ends.before ((ends.event, Accepted) ∷ []) in omega (arith, n, m)
 
 -- ---- runs
 
 -- where a run leads, by its replies
-run_state : (t : RuleTable) (start : Moment) (log : List Entry) (end : Moment) → Run t start log end → state_from start.state log ≡ end.state
+pub run_state : (t : RuleTable) (start : Moment) (log : List Entry) (end : Moment) → Run t start log end → state_from start.state log ≡ end.state
 run_state t start [] end run = sym (ap (λ (m : Moment). m.state) run)
 run_state t start (entry ∷ log) end (next, answers, run) =
     ap (λ (u : State). state_from u log) (answer_followed t start.state start.spent entry.0 entry.1 next answers) ∙ run_state t (record { state = next; spent = spent_after start.spent entry.1 }) log end run
@@ -91,7 +91,7 @@ counted_here t weight kept over begun number counting last first is = record {
         past (inr (below, ends)) n all = omega (arith, last, below, n, all)
 
 -- a count after one more entry
-next_of : (t : RuleTable) (s : State) (m : Moment) (init : List Entry) (event : Event) (reply : Reply) (next : State) (counting : Option RoundCount) → state_from m.state init ≡ s → followed s event reply ≡ next → IfSome counting (λ count. count ≡ count_of_log t m.state init) → IfSome (next_counting t reply next counting) (λ count. count ≡ count_of_log t m.state (init ++ (event, reply) ∷ []))
+pub next_of : (t : RuleTable) (s : State) (m : Moment) (init : List Entry) (event : Event) (reply : Reply) (next : State) (counting : Option RoundCount) → state_from m.state init ≡ s → followed s event reply ≡ next → IfSome counting (λ count. count ≡ count_of_log t m.state init) → IfSome (next_counting t reply next counting) (λ count. count ≡ count_of_log t m.state (init ++ (event, reply) ∷ []))
 next_of t s m init event reply next None there is before = tt
 next_of t s m init event reply next (Some count) there is before =
     ap (next_count t reply next) before
@@ -99,7 +99,7 @@ next_of t s m init event reply next (Some count) there is before =
     ∙ sym (last_after t m.state init ((event, reply) ∷ []) (first_count t m.state))
 
 -- a disturbance begins a count
-anew : (t : RuleTable) (reply : Reply) (s : State) (counting : Option RoundCount) → reply ≡ Accepted → IfSome (next_counting t reply s counting) (λ count. count ≡ first_count t s)
+pub anew : (t : RuleTable) (reply : Reply) (s : State) (counting : Option RoundCount) → reply ≡ Accepted → IfSome (next_counting t reply s counting) (λ count. count ≡ first_count t s)
 anew t reply s None is = tt
 anew t reply s (Some count) is = ap (λ (r : Reply). next_count t r s count) is
 
