@@ -90,8 +90,9 @@ fn turn(
 ///
 /// The errors are those of `audit_bytes`: the first damage of other bytes, or `Memory`. Costs what
 /// `audit_bytes` costs, and parses the lines of steps and accepted disturbances twice. After such an entry it
-/// looks at the nodes that the entry changed, and at their neighbours; a neighbour that points nowhere costs
-/// looks at its own neighbours, up to one that points at it or that it may court. Takes 32 bytes an epoch.
+/// looks at the nodes that the entry changed, and at their neighbours. A neighbour that points nowhere costs
+/// looks at its own neighbours: at the one found last that points at it or that it may court, and, if that one
+/// no longer does, on to the next. Takes 32 bytes an epoch.
 pub fn epochs_of(alloc: Global, bytes: &[u8]) -> Result<Epochs, AuditFault>
     ensures epochs { IfOk result (λ epochs. AreCostedEpochs bytes.now epochs.rules epochs.list.items) }
     ensures bounded { IfOk result (λ epochs. All (IsWithinItsBound epochs.rules) (epochs_in epochs.list.items)) }

@@ -38,6 +38,6 @@ pub use Rattle.rule_machine.specs.declared.reply.Reply.{Reply}
 pub use Rattle.rule_machine.specs.declared.reply.Reply.TheVariants.{Accepted, Refused, Moves, Shown, EnabledAre, Pairs, Counts}
 pub use Rattle.rule_machine.specs.declared.rule_set.RuleSet.{RuleSet}
 pub use Rattle.rule_machine.specs.declared.rule_set.RuleSet.TheVariants.{Hh, Manne}
-pub use Rattle.judged_rounds.specs.Around.{MarksAll, is_affected, is_affected_by, is_near, is_near_suitor}
-pub use Rattle.judged_rounds.specs.Following.{AreOnBut, CountsIn, IsReadyFor, is_on}
+pub use Rattle.judged_rounds.specs.Around.{MarksAll, is_affected, is_affected_by, is_due, is_near, is_near_lone, is_near_only, is_near_several, is_near_suitor}
+pub use Rattle.judged_rounds.specs.Following.{AreOnBeside, AreOnBut, CountsIn, IsReadyFor, IsRightWhere, is_on}
 pub use Rattle.judged_rounds.specs.declared.count.JudgedRounds.{JudgedRounds}

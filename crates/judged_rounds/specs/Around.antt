@@ -1,7 +1,8 @@
 -- The names whose rules an entry may enable or disable.
-use Rattle.std.specs.Prelude.{◌≡◌, ℕ, ◌≤◌, Bool, false, ◌&&◌, ◌||◌, List, length, nat_eq}
+use Rattle.std.specs.Prelude.{◌≡◌, ℕ, ◌≤◌, Bool, false, ◌&&◌, ◌||◌, List, [], ◌∷◌, length, nat_eq}
 use Rattle.std.specs.List.{list_any}
 use Rattle.enabled_set.specs.Members.{is_in}
+use Rattle.rule_machine.specs.declared.act.Moved.{Moved}
 use Rattle.rule_machine.specs.declared.event.Event.{Event}
 use Rattle.rule_machine.specs.declared.event.Event.TheVariants.{Link, Unlink, Point, Flag, Step, Show, Enabled, Matching, Status, Join, Leave}
 use Rattle.rule_machine.specs.declared.reply.Reply.{Reply}
@@ -36,6 +37,27 @@ abbrev pub is_affected : State → Event → Reply → ℕ → Bool
 is_affected s event Accepted u = is_affected_by s event u
 is_affected s event (Moves moves) u = list_any (λ m. is_near s m.node u) moves
 is_affected s event reply u = false
+
+-- whether several nodes move, and u is near one of them
+abbrev pub is_near_several : State → List Moved → ℕ → Bool
+is_near_several s (m ∷ n ∷ moves) u = list_any (λ k. is_near s k.node u) (m ∷ n ∷ moves)
+is_near_several s moves u = false
+
+-- whether only one node moves, and u is near it
+abbrev pub is_near_only : State → List Moved → ℕ → Bool
+is_near_only s (m ∷ []) u = is_near s m.node u
+is_near_only s moves u = false
+
+-- whether u is marked before the event
+abbrev pub is_due : State → Event → Reply → ℕ → Bool
+is_due s event Accepted u = is_affected_by s event u
+is_due s event (Moves moves) u = is_near_several s moves u
+is_due s event reply u = false
+
+-- whether a rule at u is looked at after the event, though u is not marked
+abbrev pub is_near_lone : State → Reply → ℕ → Bool
+is_near_lone s (Moves moves) u = is_near_only s moves u
+is_near_lone s reply u = false
 
 -- Of the names up to a size, the second list marks those that the first one marks, and those that pass the
 -- test. It may mark more.

@@ -4,7 +4,7 @@ ghost use Rattle.std.specs.Prelude.{◌≡◌, ◌+◌, ◌&&◌, ◌||◌, leng
 ghost use Rattle.std.specs.List.{list_any};
 ghost use Rattle.graph_store.specs.Rows.{has};
 ghost use Rattle.rule_machine.specs.State.{points};
-ghost use Rattle.judged_rounds.specs.Around.{MarksAll, is_affected, is_affected_by, is_near, is_near_suitor};
+ghost use Rattle.judged_rounds.specs.Around.{MarksAll, is_affected_by, is_due, is_near, is_near_several, is_near_suitor};
 
 use enabled_set::Marks;
 use reply_checker::Judge;
@@ -93,14 +93,24 @@ fn mark_moved(due: &mut Marks, size: u32, judge: &Judge, moves: &[Moved])
     }
 }
 
-/// Marks the names whose rules an event with this reply may enable or disable in the judge's state.
+fn mark_several(due: &mut Marks, size: u32, judge: &Judge, moves: &[Moved])
+    requires { length due.old ≡ size + 1 }
+    ensures { MarksAll size (is_near_several judge.now moves.now) due.old due.new }
+{
+    if moves.len() > 1 {
+        mark_moved(due, size, judge, moves);
+    }
+}
+
+/// Marks the names whose rules an event with this reply may enable or disable in the judge's state, but for
+/// those near a lone mover.
 pub(crate) fn mark_affected(due: &mut Marks, size: u32, judge: &Judge, event: &Event, reply: &Reply)
     requires { length due.old ≡ size + 1 }
-    ensures { MarksAll size (is_affected judge.now event.now reply.now) due.old due.new }
+    ensures { MarksAll size (is_due judge.now event.now reply.now) due.old due.new }
 {
     match reply {
         Reply::Accepted => mark_disturbed(due, size, judge, event),
-        Reply::Moves(moves) => mark_moved(due, size, judge, moves.as_slice()),
+        Reply::Moves(moves) => mark_several(due, size, judge, moves.as_slice()),
         _ => {}
     }
 }

@@ -8,7 +8,7 @@ ghost use Rattle.rule_machine.specs.State.{State};
 ghost use Rattle.round_counter.specs.Counting.{HasCounted, is_step};
 
 use crate::around::mark_affected;
-use crate::looks::look_again;
+use crate::looks::{look_again, look_near_lone};
 use enabled_set::{EnabledSet, Marks};
 use reply_checker::Judge;
 use round_counter::RoundCounter;
@@ -87,7 +87,8 @@ impl JudgedRounds {
         self.counter.rounds()
     }
 
-    /// Marks the names whose rules an event with this reply may enable or disable.
+    /// Marks the names whose rules an event with this reply may enable or disable, but for those near a lone
+    /// mover.
     ///
     /// Call it before the judge carries the event out. Cost: a look at each node that the entry changes and at
     /// each of its neighbours; for a node that leaves, also at the neighbours of each node that points at it. At
@@ -112,6 +113,13 @@ impl JudgedRounds {
         ensures counts { (start : State) (log : List Entry) (s : State) (event : Event) → IsReadyFor start log s event reply.now self.old → judge.now ≡ followed s event reply.now → self.old.counter.rounds < 4294967295
             → CountsIn (start_after start reply.now judge.now) (log_after log event reply.now) judge.now self.new }
     {
+        look_near_lone(
+            &mut self.enabled,
+            &mut self.callers,
+            judge,
+            self.rules,
+            reply,
+        );
         look_again(
             &mut self.enabled,
             &mut self.due,
