@@ -1,10 +1,12 @@
 -- The count of a journal's rounds is that of the kept entries since it began.
-use Rattle.step_log.proofs.Prelude.{◌≡◌, ◌∙◌, ◌⊎◌, inl, inr, ℕ, ◌+◌, ◌≤◌, List, [], ◌∷◌, ◌++◌, length, get_or, drop, None, Option, Some, IfSome, refl, sym, ap, ap₂, subst, arith, length-append, append-nil, Event, Reply, Accepted, State, RuleTable, Answers, spent_after, Entry, Moment, Run, BeginsAt, dropped, charge_bound, runs_keep_size, answer_followed, followed, RoundCount, count_of_log, first_count, next_count, next_counting, IsRetainedRun, LeadsTo, RetainedLog, last_number, moment_in, IsJournal, Epoch, EpochStart}
+use Rattle.step_log.proofs.Prelude.{◌≡◌, ◌∙◌, ◌⊎◌, inl, inr, ℕ, ◌+◌, ◌≤◌, List, [], ◌∷◌, ◌++◌, length, get_or, drop, None, Option, Some, IfSome, refl, sym, ap, ap₂, subst, arith, length-append, append-nil, Event, Reply, Accepted, State, RuleTable, Answers, spent_after, Entry, Moment, Run, BeginsAt, dropped, charge_bound, runs_keep_size, answer_followed, followed, RoundCount, count_of_log, first_count, next_count, next_counting, rounds_of, over_after, begun_by, All, IsRetainedRun, LeadsTo, RetainedLog, last_number, moment_in, IsJournal, Epoch, EpochStart}
 use Rattle.round_laws.proofs.RoundCounts.{last_after}
 use Rattle.round_laws.specs.Pieces.{state_from}
 use Rattle.step_log.proofs.HeadlineProof.{from_there, run_goes_on}
 use Rattle.step_log.proofs.Once.{run_once}
-use Rattle.step_log.specs.JournalRounds.{CountsAfter, CountsKept, EndsDisturbed, IsCountedJournal}
+use Rattle.step_log.proofs.EpochRounds.{all_over_here, current_next, ended_next, no_entries}
+use Rattle.step_log.specs.JournalRounds.{BeginsAfter, CountsAfter, CountsKept, EndsDisturbed, IsCountedJournal, IsOver}
+use Rattle.std.proofs.lemmas.List.Elements.{All-nil}
 
 -- ---- lists of entries
 
@@ -54,20 +56,28 @@ ends_there t weight kept k entries m all there =
 
 -- ---- the count
 
--- without a count there is nothing to say
-pub uncounted : (t : RuleTable) (weight : ℕ) (kept : RetainedLog) (over : List Epoch) (begun : EpochStart) (counting : Option RoundCount) → counting ≡ None → IsJournal t weight kept over begun → IsCountedJournal t weight kept over begun None counting
-uncounted t weight kept over begun counting none is = record {
+-- no epoch is over
+none_over : (t : RuleTable) (weight : ℕ) (kept : RetainedLog) (from : Option ℕ) (counting : Option RoundCount) (over : List Epoch) → over ≡ [] → All (IsOver t weight kept from counting) over
+none_over t weight kept from counting over none = subst (λ (l : List Epoch). All (IsOver t weight kept from counting) l) (sym none) (All-nil (IsOver t weight kept from counting))
+
+-- without a count there is nothing to say, before any entry
+pub uncounted : (t : RuleTable) (weight : ℕ) (kept : RetainedLog) (over : List Epoch) (begun : EpochStart) (counting : Option RoundCount) → counting ≡ None → kept.entries ≡ [] → over ≡ [] → BeginsAfter (dropped kept.base) [] begun → IsJournal t weight kept over begun → IsCountedJournal t weight kept over begun None counting
+uncounted t weight kept over begun counting none empty first starts is = record {
   journal = is;
   within = tt;
   counts = λ before after m same there begins. subst (λ (o : Option RoundCount). IfSome o (λ count. count ≡ count_of_log t m.state after)) (sym none) tt;
+  ended = none_over t weight kept None counting over first;
+  current = no_entries kept begun empty starts;
 }
 
 -- counting began before the base, and nothing is kept
-pub counted_before : (t : RuleTable) (weight : ℕ) (kept : RetainedLog) (over : List Epoch) (begun : EpochStart) (counting : Option RoundCount) → kept.entries ≡ [] → IsJournal t weight kept over begun → IsCountedJournal t weight kept over begun None counting
-counted_before t weight kept over begun counting none is = record {
+pub counted_before : (t : RuleTable) (weight : ℕ) (kept : RetainedLog) (over : List Epoch) (begun : EpochStart) (counting : Option RoundCount) → kept.entries ≡ [] → over ≡ [] → BeginsAfter (dropped kept.base) [] begun → IsJournal t weight kept over begun → IsCountedJournal t weight kept over begun None counting
+counted_before t weight kept over begun counting none empty starts is = record {
   journal = is;
   within = tt;
   counts = λ before after m same there begins. absurd (not_disturbed (subst EndsDisturbed (first before after (same ∙ none)) begins));
+  ended = none_over t weight kept None counting over empty;
+  current = no_entries kept begun none starts;
 }
   where
     first : (xs ys : List Entry) → xs ++ ys ≡ [] → xs ≡ []
@@ -75,15 +85,17 @@ counted_before t weight kept over begun counting none is = record {
     first (x ∷ xs) ys is = absurd (let n = ap length is in omega (arith, n))
 
 -- counting begins
-pub counted_here : (t : RuleTable) (weight : ℕ) (kept : RetainedLog) (over : List Epoch) (begun : EpochStart) (number : ℕ) (counting : Option RoundCount) → number ≡ last_number kept → counting ≡ Some (first_count t kept.state) → IsJournal t weight kept over begun → IsCountedJournal t weight kept over begun (Some number) counting
-counted_here t weight kept over begun number counting last first is = record {
-  journal = is;
+pub counted_here : (t : RuleTable) (weight : ℕ) (kept : RetainedLog) (over : List Epoch) (begun : EpochStart) (from : Option ℕ) (before : Option RoundCount) (number : ℕ) (counting : Option RoundCount) → number ≡ last_number kept → counting ≡ Some (first_count t kept.state) → IsCountedJournal t weight kept over begun from before → IsCountedJournal t weight kept over begun (Some number) counting
+counted_here t weight kept over begun from before number counting last first is = record {
+  journal = is.journal;
   within = omega (arith, last);
   counts = λ before after m same there begins. subst (λ (o : Option RoundCount). IfSome o (λ count. count ≡ count_of_log t m.state after)) (sym first) (whole before after m same there begins);
+  ended = all_over_here t weight kept from before counting number (first_count t kept.state) over last first is.ended;
+  current = is.current;
 }
   where
     whole : (before after : List Entry) (m : Moment) → before ++ after ≡ kept.entries → LeadsTo t weight kept before m → CountsAfter (dropped kept.base) (Some number) before → first_count t kept.state ≡ count_of_log t m.state after
-    whole before [] m same there begins = ap (λ (n : Moment). first_count t n.state) (sym (ends_there t weight kept is.is_kept before m (sym (append-nil before) ∙ same) there))
+    whole before [] m same there begins = ap (λ (n : Moment). first_count t n.state) (sym (ends_there t weight kept is.journal.is_kept before m (sym (append-nil before) ∙ same) there))
     whole before (x ∷ after) m same there begins = absurd (let n = length-append before (x ∷ after) in let all = ap length same in past begins n all)
       where
         past : CountsAfter (dropped kept.base) (Some number) before → length (before ++ x ∷ after) ≡ length before + length (x ∷ after) → length (before ++ x ∷ after) ≡ length kept.entries → ⊥
@@ -105,12 +117,15 @@ anew t reply s (Some count) is = ap (λ (r : Reply). next_count t r s count) is
 
 -- with one more entry
 pub counted_next : (t : RuleTable) (weight : ℕ) (kept : RetainedLog) (over next_over : List Epoch) (begun next_begun : EpochStart) (from : Option ℕ) (counting counted : Option RoundCount) (m : Moment) (entries : List Entry) (event : Event) (reply : Reply) → IsCountedJournal t weight kept over begun from counting → Answers t kept.state kept.spent event reply m.state → entries ≡ kept.entries ++ (event, reply) ∷ [] → counted ≡ next_counting t reply m.state counting
+    → (e : Epoch) → e.start ≡ begun → e.rounds ≡ rounds_of counting → next_over ≡ over_after reply e over → next_begun ≡ begun_by reply (last_number kept + 1) begun
     → IsJournal t weight (record { state = m.state; spent = m.spent; base = kept.base; entries = entries; limit = kept.limit; present = kept.present }) next_over next_begun
     → IsCountedJournal t weight (record { state = m.state; spent = m.spent; base = kept.base; entries = entries; limit = kept.limit; present = kept.present }) next_over next_begun from counted
-counted_next t weight kept over next_over begun next_begun from counting counted m entries event reply is answers added counts journal = record {
+counted_next t weight kept over next_over begun next_begun from counting counted m entries event reply is answers added counts e start rounds ended starts journal = record {
   journal = journal;
   within = still from is.within;
   counts = λ before after n same there begins. subst (λ (o : Option RoundCount). IfSome o (λ count. count ≡ count_of_log t n.state after)) (sym counts) (cases before after n same there begins (ends_in before after kept.entries (event, reply) (same ∙ added)));
+  ended = ended_next t weight kept m entries event reply from counting counted added counts earlier over next_over begun is e start rounds ended;
+  current = current_next kept m entries event reply begun next_begun added starts is.current;
 }
   where
     new : RetainedLog
@@ -148,13 +163,15 @@ counted_next t weight kept over next_over begun next_begun from counting counted
         (next_of t kept.state n init event reply m.state counting (run_state t n init (moment_in kept) run) (answer_followed t kept.state kept.spent event reply m.state answers) (is.counts before init n rest was begins))
 
 -- a checkpoint changes no count
-pub counted_again : (t : RuleTable) (weight : ℕ) (kept new : RetainedLog) (over next_over : List Epoch) (begun next_begun : EpochStart) (from : Option ℕ) (counting : Option RoundCount) → IsCountedJournal t weight kept over begun from counting → moment_in new ≡ moment_in kept → new.entries ≡ [] → dropped new.base ≡ last_number kept → IsJournal t weight new next_over next_begun → IsCountedJournal t weight new next_over next_begun from counting
-counted_again t weight kept new over next_over begun next_begun from counting is same none number journal = record {
+pub counted_again : (t : RuleTable) (weight : ℕ) (kept new : RetainedLog) (over next_over : List Epoch) (begun next_begun : EpochStart) (from : Option ℕ) (counting : Option RoundCount) → IsCountedJournal t weight kept over begun from counting → moment_in new ≡ moment_in kept → new.entries ≡ [] → dropped new.base ≡ last_number kept → next_over ≡ [] → BeginsAfter (dropped new.base) [] next_begun → IsJournal t weight new next_over next_begun → IsCountedJournal t weight new next_over next_begun from counting
+counted_again t weight kept new over next_over begun next_begun from counting is same none number empty starts journal = record {
   journal = journal;
   within = still from is.within;
   counts = λ before after n all there begins. let both = split before after (all ∙ none) in
       subst (λ (l : List Entry). IfSome counting (λ count. count ≡ count_of_log t n.state l)) (sym both.1)
       (subst (λ (u : Moment). IfSome counting (λ count. count ≡ first_count t u.state)) (sym (ends_there t weight new journal.is_kept before n (both.0 ∙ sym none) there ∙ same)) (here from is.counts (subst (CountsAfter (dropped new.base) from) both.0 begins)));
+  ended = none_over t weight new from counting next_over empty;
+  current = no_entries new next_begun none starts;
 }
   where
     split : (xs ys : List Entry) → xs ++ ys ≡ [] → (xs ≡ []) × (ys ≡ [])

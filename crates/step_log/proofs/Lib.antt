@@ -8,4 +8,5 @@ pub mod Once
 pub mod EpochPaths
 pub mod HeadlineProof
 pub mod BaseStarts
+pub mod EpochRounds
 pub mod KeptRounds

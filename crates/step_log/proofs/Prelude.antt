@@ -60,7 +60,7 @@ pub use Rattle.rule_machine.specs.declared.event.Event.TheVariants.{Link, Unlink
 pub use Rattle.rule_machine.specs.declared.refusal.Refusal.{Refusal}
 pub use Rattle.rule_machine.specs.declared.reply.Reply.{Reply}
 pub use Rattle.rule_machine.specs.declared.reply.Reply.TheVariants.{Accepted, Refused, Moves, Shown, EnabledAre, Pairs, Counts}
-pub use Rattle.step_log.specs.Epochs.{AreEpochs, IsEpochWithinBound, IsEpochPath, begun_by, ended_by, epochs_along, of_run, open_in, over_in, path_end}
+pub use Rattle.step_log.specs.Epochs.{AreEpochs, IsEpochWithinBound, IsEpochPath, begun_by, ended_by, epoch_now, epochs_along, of_run, open_in, over_after, over_in, path_end}
 pub use Rattle.step_log.specs.Headline.{Upholds, LeadsTo}
 pub use Rattle.step_log.specs.JournalViews.{IsJournal, JournalView, kept_of, undropped_log, IsNextReceipt}
 pub use Rattle.step_log.specs.Log.{empty_log_with, max_entries, Log, IsLog}

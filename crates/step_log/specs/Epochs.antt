@@ -4,12 +4,15 @@ use Rattle.rule_machine.specs.declared.base.EpochStart.{EpochStart}
 use Rattle.rule_machine.specs.declared.base.EpochStart.TheVariants.{At}
 use Rattle.rule_machine.specs.declared.reply.Reply.{Reply}
 use Rattle.rule_machine.specs.declared.reply.Reply.TheVariants.{Accepted}
+use Rattle.rule_machine.specs.Network.{node_count, edge_count}
 use Rattle.rule_machine.specs.State.{State}
 use Rattle.rule_machine.specs.RuleTable.{RuleTable}
 use Rattle.rule_machine.specs.Answer.{spent_after}
 use Rattle.rule_machine.specs.Run.{Entry, Moment, epochs_by, epochs_from, open_at, Epoch as EpochOf}
 use Rattle.rule_machine.specs.Base.{begun_at, dropped}
 use Rattle.machine_laws.specs.Epochs.{IsPath}
+use Rattle.round_laws.specs.RoundCounts.{rounds_of}
+use Rattle.rule_engine.specs.PreparedEvents.{NetView}
 use Rattle.step_log.specs.declared.epoch.Epoch.{Epoch}
 use Rattle.step_log.specs.RetainedLogs.{RetainedLog, Begins}
 
@@ -21,6 +24,16 @@ of_run e = record { start = e.start; moves = e.moves; edges = e.edges; nodes = e
 abbrev pub ended_by : Reply → EpochOf → List EpochOf
 ended_by Accepted e = e ∷ []
 ended_by other e = []
+
+-- the epoch with this start, as it is now in this network
+abbrev pub epoch_now : EpochStart → NetView → Epoch
+epoch_now start net =
+    record { start = start; moves = net.spent; edges = edge_count net.state.network; nodes = node_count net.state.network; rounds = rounds_of net.counting }
+
+-- the epochs that are over after an entry with this reply, if `e` was current and `over` were over before it
+abbrev pub over_after : Reply → Epoch → List Epoch → List Epoch
+over_after Accepted e over = over ++ e ∷ []
+over_after other e over = over
 
 -- the start of the epoch that is current after the entry with this number
 abbrev pub begun_by : Reply → ℕ → EpochStart → EpochStart

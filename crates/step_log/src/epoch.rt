@@ -4,13 +4,13 @@ ghost use Rattle.std.specs.Prelude.{◌≡◌, ◌<◌, ◌++◌, [], ◌∷◌,
 ghost use Rattle.rule_engine.specs.PreparedEvents.{net_moment};
 ghost use Rattle.rule_machine.specs.declared.reply.Reply.TheVariants.{Accepted};
 ghost use Rattle.rule_machine.specs.Run.{open_at};
-ghost use Rattle.step_log.specs.Epochs.{begun_by, ended_by, of_run};
+ghost use Rattle.step_log.specs.Epochs.{begun_by, ended_by, epoch_now, of_run, over_after};
 
 use rule_engine::{Net, Reply, Rules, Want};
 use rule_machine::EpochStart;
 use std::alloc::Global;
 
-/// How many moves came in one epoch, and the network's size then.
+/// How many moves and rounds came in one epoch, and the network's size then.
 /// An epoch lasts from an accepted disturbance, or the start, up to the next accepted disturbance, or the
 /// end.
 /// The moves are at most twice the edges plus the rules' weight for each node.
@@ -24,11 +24,16 @@ pub struct Epoch {
     pub edges: u32,
     /// How many nodes there were.
     pub nodes: u32,
+    /// How many rounds were complete in the epoch, or since counting began, if it began within the epoch.
+    /// Taken at the epoch's end: before the disturbance that ended it, or now. `None` if rounds were not
+    /// counted then.
+    pub rounds: Option<u32>,
 }
 
 impl Epoch {
     fn up_to_now<R: Rules>(start: EpochStart, net: &Net<R>) -> Epoch
-        ensures { of_run result ≡ open_at start (net_moment net.now) }
+        ensures run { of_run result ≡ open_at start (net_moment net.now) }
+        ensures now { result ≡ epoch_now start net.now }
     {
         let store = net.store();
         Epoch {
@@ -36,11 +41,12 @@ impl Epoch {
             moves: net.spent(),
             edges: store.edges(),
             nodes: store.nodes(),
+            rounds: net.rounds(),
         }
     }
 }
 
-/// The moves and the size of the current epoch come from the network.
+/// The moves, the rounds and the size of the current epoch come from the network.
 #[derive(Drop)]
 pub(crate) struct Epochs {
     pub over: Vec<Epoch>,
@@ -74,6 +80,7 @@ impl Epochs {
     pub fn turn<R: Rules>(&mut self, number: u32, reply: &Reply, net: &Net<R>)
         requires { reply.now ≡ Accepted → length self.old.over.items < vec_capacity self.old.over }
         ensures over { map of_run self.new.over.items ≡ map of_run self.old.over.items ++ ended_by reply.now (open_at self.old.begun (net_moment net.now)) }
+        ensures list { self.new.over.items ≡ over_after reply.now (epoch_now self.old.begun net.now) self.old.over.items }
         ensures begun { self.new.begun ≡ begun_by reply.now number self.old.begun }
     {
         if let Reply::Accepted = reply {
@@ -83,7 +90,8 @@ impl Epochs {
     }
 
     pub fn list<R: Rules>(&self, alloc: Global, net: &Net<R>) -> Result<Vec<Epoch>, Want>
-        ensures { IfOk result (λ epochs. map of_run epochs.items ≡ map of_run self.now.over.items ++ open_at self.now.begun (net_moment net.now) ∷ []) }
+        ensures epochs { IfOk result (λ epochs. map of_run epochs.items ≡ map of_run self.now.over.items ++ open_at self.now.begun (net_moment net.now) ∷ []) }
+        ensures list { IfOk result (λ epochs. epochs.items ≡ self.now.over.items ++ epoch_now self.now.begun net.now ∷ []) }
     {
         let mut epochs = Vec::with_capacity(alloc, self.over.len() + 1)?;
         epochs.extend_from_slice(&self.over)?;

@@ -15,7 +15,7 @@ ghost use Rattle.step_log.specs.Log.{max_entries, IsLog, empty_log, empty_log_wi
 ghost use Rattle.step_log.specs.RetainedLogs.{IsRetainedRun, last_number, whole, kept_with, next_receipt};
 ghost use Rattle.step_log.specs.JournalViews.{IsNextReceipt, counting_journal, kept_of, undropped_log};
 ghost use Rattle.step_log.specs.Headline.{Upholds};
-ghost use Rattle.step_log.specs.JournalRounds.{CountsKept};
+ghost use Rattle.step_log.specs.JournalRounds.{AreEpochRounds, CountsKept};
 
 use crate::epoch::Epochs;
 use crate::{Epoch, MAX_ENTRIES, NoEntry, Prepared, Receipt, RecordFault};
@@ -190,11 +190,15 @@ impl<R: Rules> Journal<R> {
     /// The epochs of the log, in order. The last epoch ends now.
     /// The first epoch begins at the start or contains the base. The moves of an epoch are at most twice its
     /// edges plus the rules' weight for each of its nodes.
+    /// The rounds of an epoch are `net().rounds()` at its end, before the disturbance that ended it, or now.
+    /// Clause `rounds`: if a count began at the epoch's start or within it, they are the rounds of the entries
+    /// from there on. A count that begins anew leaves the rounds of earlier epochs unchanged.
     /// `AllocError` if memory runs out. The result is copied from a list that the journal keeps as the log
     /// grows.
     pub fn epochs(&self) -> Result<Vec<Epoch>, Want>
         ensures epochs { IfOk result (λ epochs. AreEpochs R.table R.NODE_WEIGHT (kept_of self.now) epochs.items) }
         ensures bound { IfOk result (λ epochs. All (IsEpochWithinBound R.NODE_WEIGHT) epochs.items) }
+        ensures rounds { IfOk result (λ epochs. AreEpochRounds R.table R.NODE_WEIGHT (kept_of self.now) self.now.counted_from self.now.counting epochs.items) }
     {
         self.epochs.list(self.alloc, &self.net)
     }

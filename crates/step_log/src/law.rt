@@ -1,6 +1,7 @@
 //! Consequences of the headline `Upholds`: each rule set's bound, and the moments of prefixes.
+//! A consequence of `AreEpochRounds`: each epoch's rounds by its number.
 
-ghost use Rattle.std.specs.Prelude.{◌≡◌, ◌≤◌, ◌+◌, ◌*◌, ◌++◌, ℕ, List, All, map};
+ghost use Rattle.std.specs.Prelude.{◌≡◌, ◌≤◌, ◌+◌, ◌*◌, ◌++◌, ℕ, List, Option, All, map};
 ghost use Rattle.rule_machine.specs.HsuHuang.{hsu_huang};
 ghost use Rattle.rule_machine.specs.Manne.{manne};
 ghost use Rattle.rule_machine.specs.Network.{node_count, edge_count};
@@ -9,8 +10,11 @@ ghost use Rattle.rule_machine.specs.RuleTable.{RuleTable};
 ghost use Rattle.rule_machine.specs.State.{State};
 ghost use Rattle.machine_laws.specs.ChargeWords.{IsUndisturbed, moves_in};
 ghost use Rattle.machine_laws.specs.Epochs.{IsPath};
+ghost use Rattle.round_laws.specs.RoundCounts.{RoundCount};
+ghost use Rattle.step_log.specs.declared.epoch.Epoch.{Epoch};
 ghost use Rattle.step_log.specs.Epochs.{epochs_along};
 ghost use Rattle.step_log.specs.Headline.{Upholds, LeadsTo};
+ghost use Rattle.step_log.specs.JournalRounds.{AreEpochRounds, HasRoundsByNumber};
 ghost use Rattle.step_log.specs.RetainedLogs.{RetainedLog, Begins};
 
 /// Between two disturbances a log has at most 2m + n moves under `hh` and 2m + 3n under `manne`.
@@ -42,4 +46,11 @@ pub fn beginnings_lead_somewhere()
     ensures { (t : RuleTable) (weight : ℕ) (kept : RetainedLog) → Upholds t weight kept
         → (before after : List Entry) → before ++ after ≡ kept.entries
         → (m : Moment) × LeadsTo t weight kept before m × ((n : Moment) → LeadsTo t weight kept before n → n ≡ m) }
+{}
+
+/// If a journal's count begins with an epoch, the epoch's rounds are those of its entries.
+/// The epoch's entries are those from its start up to the next accepted disturbance, or the last.
+pub fn epoch_rounds_by_number()
+    ensures { (t : RuleTable) (weight : ℕ) (kept : RetainedLog) (from : Option ℕ) (counting : Option RoundCount) (epochs : List Epoch)
+        → AreEpochRounds t weight kept from counting epochs → All (HasRoundsByNumber t weight kept from counting) epochs }
 {}

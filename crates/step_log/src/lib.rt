@@ -8,7 +8,8 @@
 //! network's state; each reply is the machine's; each epoch's moves are within the bound. After a fault
 //! nothing has changed.
 //!
-//! Both count rounds if asked (`count_rounds`): `net().rounds()` has the count.
+//! Both count rounds if asked (`count_rounds`): `net().rounds()` has the count, and each of `Journal::epochs` its
+//! rounds.
 //!
 //! `record` is `prepare`, which takes all the memory, then `commit`, which cannot fail. An entry takes at
 //! most 80 bytes, plus its lists.
@@ -36,7 +37,7 @@ mod start_fault;
 pub use epoch::Epoch;
 pub use fault::{NoEntry, RecordFault};
 pub use journal::Journal;
-pub use law::{beginnings_lead_somewhere, budgets_by_name, epochs_by_name};
+pub use law::{beginnings_lead_somewhere, budgets_by_name, epoch_rounds_by_number, epochs_by_name};
 pub use log_entry::{Entry, MAX_ENTRIES};
 pub use prepared::Prepared;
 pub use receipt::{Answer, Receipt};

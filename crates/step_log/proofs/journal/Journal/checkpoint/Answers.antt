@@ -1,5 +1,6 @@
-use Rattle.step_log.proofs.Prelude.{◌≡◌, ◌∙◌, ℕ, List, Some, refl, ap, ap₂, sym, subst, Base, EpochStart, Forgotten, Entry, base_of, JournalView, IsJournal, kept_of, RetainedLog, IsBaseOfGraph, last_number, moment_in}
+use Rattle.step_log.proofs.Prelude.{◌≡◌, ◌∙◌, ℕ, List, [], Some, refl, ap, ap₂, sym, subst, Base, EpochStart, Forgotten, Entry, base_of, JournalView, IsJournal, kept_of, RetainedLog, IsBaseOfGraph, last_number, moment_in}
 use Rattle.step_log.proofs.KeptRounds.{counted_again}
+use Rattle.step_log.specs.JournalRounds.{BeginsAfter}
 use Rattle.step_log.proofs.LogGrowth.{checkpointed_is_journal}
 use Rattle.step_log.proofs.journal.Journal.checkpoint.Goals as goal
 
@@ -16,6 +17,6 @@ invariant_of-self g c =
     let short : IsBaseOfGraph (Some (base_of (last_number kept) (moment_in kept))) = subst (λ (b : Base). IsBaseOfGraph (Some b)) is c.in_ok-base.ensures.few in
     let over = c.new-epochs.result.over.items in
     let there = checkpointed_is_journal t weight laws.table laws.charged laws.no_update kept c.self.invariant.journal.is_kept short over c.new-epochs.ensures.over in
-    counted_again t weight kept _ _ _ _ _ _ _ c.self.invariant refl c.new-entries.ensures.items (ap (λ (b : Base). b.number) is)
+    counted_again t weight kept _ _ _ _ _ _ _ c.self.invariant refl c.new-entries.ensures.items (ap (λ (b : Base). b.number) is) c.new-epochs.ensures.over (subst (BeginsAfter made.number []) (sym c.new-epochs.ensures.begun) refl)
     (subst (λ (s : EpochStart). IsJournal t weight (record { state = j.net.state; spent = j.net.spent; base = Some made; entries = c.new-entries.result.items; limit = j.limit; present = j.present }) over s) (sym c.new-epochs.ensures.begun)
     (subst (λ (k : RetainedLog). IsJournal t weight k over Forgotten) (sym (ap₂ (λ (b : Base) (es : List Entry). record { state = j.net.state; spent = j.net.spent; base = Some b; entries = es; limit = j.limit; present = j.present }) is c.new-entries.ensures.items)) there))

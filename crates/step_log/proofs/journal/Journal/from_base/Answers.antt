@@ -1,6 +1,7 @@
-use Rattle.step_log.proofs.Prelude.{◌≡◌, ◌≤◌, refl, length, Some, sym, subst, arith, charge_bound, max_entries, Moment, EpochStart, Forgotten, IsJournal, RetainedLog}
+use Rattle.step_log.proofs.Prelude.{◌≡◌, ◌≤◌, [], refl, length, Some, sym, subst, arith, charge_bound, max_entries, Moment, EpochStart, Forgotten, IsJournal, RetainedLog}
 use Rattle.std.specs.Prelude.{min}
 use Rattle.step_log.proofs.KeptRounds.{uncounted}
+use Rattle.step_log.specs.JournalRounds.{BeginsAfter}
 use Rattle.step_log.proofs.BaseStarts.{spent_is, begun_in, begun_is_journal, kept_is}
 use Rattle.step_log.proofs.journal.Journal.from_base.Goals as goal
 
@@ -18,7 +19,7 @@ invariant_of-result g c =
     let few = c.in_ok-net.ensures.few in
     let kept = kept_is net.state base limit limit net.spent c.new.result.items c.as_slice.result.now spent c.new.ensures.items refl c.as_slice.ensures in
     let over = c.new-2.result.over.items in
-    uncounted t weight _ _ _ _ c.in_ok-net.ensures.uncounted
+    uncounted t weight _ _ _ _ c.in_ok-net.ensures.uncounted c.new.ensures.items c.new-2.ensures.over (subst (BeginsAfter base.number []) (sym c.new-2.ensures.begun) refl)
     (subst (λ (e : EpochStart). IsJournal t weight (record { state = net.state; spent = net.spent; base = Some base; entries = c.new.result.items; limit = limit; present = length c.as_slice.result.now }) over e) (sym c.new-2.ensures.begun)
     (subst (λ (k : RetainedLog). IsJournal t weight k over Forgotten) (sym kept)
     (begun_is_journal t weight c.args.size limit base net.state begun few.0.names few.1 few.0.edges c.if-base-limit.false within over c.new-2.ensures.over)))

@@ -1,8 +1,9 @@
-use Rattle.step_log.proofs.Prelude.{◌≤◌, ◌∙◌, List, Some, ap, ap₂, sym, subst, arith, max_entries, Base, EpochStart, Entry, Forgotten, Moment, IsJournal, RetainedLog, IsBaseOfGraph, base_of}
+use Rattle.step_log.proofs.Prelude.{◌≤◌, ◌∙◌, List, [], Some, ap, ap₂, refl, sym, subst, arith, max_entries, Base, EpochStart, Entry, Forgotten, Moment, IsJournal, RetainedLog, IsBaseOfGraph, base_of}
 use Rattle.rule_machine.specs.Network.{Network}
 use Rattle.rule_engine.specs.EventReplies.{IsWithinBudget}
 use Rattle.rule_engine.specs.PreparedEvents.{NetView}
 use Rattle.step_log.proofs.KeptRounds.{counted_before}
+use Rattle.step_log.specs.JournalRounds.{BeginsAfter}
 use Rattle.step_log.proofs.BaseStarts.{resumed_is_journal}
 use Rattle.step_log.proofs.journal.Journal.of_net.Goals as goal
 
@@ -23,6 +24,6 @@ invariant_of-result g c =
     let budget = subst (λ (n : NetView). IsWithinBudget t weight (record { state = n.state; spent = n.spent })) c.net.view_is c.net.invariant.budget in
     let over = c.new-2.result.over.items in
     let begun = resumed_is_journal t weight number limit present there budget small short room most over c.new-2.ensures.over in
-    counted_before t weight _ _ _ _ c.new.ensures.items
+    counted_before t weight _ _ _ _ c.new.ensures.items c.new-2.ensures.over (subst (BeginsAfter c.in_ok-base.base.number []) (sym c.new-2.ensures.begun) refl)
     (subst (λ (e : EpochStart). IsJournal t weight (record { state = there.state; spent = there.spent; base = Some c.in_ok-base.base; entries = c.new.result.items; limit = limit; present = present }) over e) (sym c.new-2.ensures.begun)
     (subst (λ (k : RetainedLog). IsJournal t weight k over Forgotten) (sym (ap₂ (λ (b : Base) (es : List Entry). record { state = there.state; spent = there.spent; base = Some b; entries = es; limit = limit; present = present }) made c.new.ensures.items)) begun))
