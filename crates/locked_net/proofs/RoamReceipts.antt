@@ -1,5 +1,5 @@
 -- The receipts of clerks that roamed turn by turn, and their fault.
-use Rattle.locked_net.proofs.Prelude.{◌≡◌, ◌∙◌, ℕ, zero, suc, ◌+◌, ◌<◌, ◌≤◌, List, [], ◌∷◌, ◌++◌, length, take, drop, min, Option, None, Some, refl, sym, ap, subst, ⊎_elim, append_assoc, length-append, arith, All, slice_get, cases_lt, append-nil, drop_all, drop_at, nil_from_length, take_all, take_at, same_Some, none-some, All-nil, All-cons, All-append, RuleTable, Entry, Receipt, RetainedLog, next_receipt, ClerkView, seen_by, Setting, CallFault, Behind, LogFull, Memory, RoamFault, MayAnswer, mover, lone_step, receipts_by, receipts_of_turn, FaultBy, IsLoneStep, Roams, AllRoam, RoamResult, MayMeetRoamFault, TakesTurns, AllTakeTurns, BreaksOff, MayEnd, AllEnd, roam_fault}
+use Rattle.locked_net.proofs.Prelude.{◌≡◌, ◌∙◌, ℕ, zero, suc, ◌+◌, ◌<◌, ◌≤◌, List, [], ◌∷◌, ◌++◌, length, take, drop, min, Option, None, Some, refl, sym, ap, subst, ⊎_elim, append_assoc, length-append, arith, All, slice_get, cases_lt, append-nil, drop_all, drop_at, nil_from_length, take_all, take_at, same_Some, none-some, All-nil, All-cons, All-append, RuleTable, Entry, Receipt, RetainedLog, next_receipt, ClerkView, seen_by, Setting, CallFault, Behind, LogFull, Memory, RoamFault, MayAnswer, mover, lone_step, receipts_by, receipts_of_turn, FaultBy, IsLoneStep, Roams, AllRoam, RoamResult, MayMeetRoamFault, TakesTurns, AllTakeTurns, BreaksOff, MayEnd, AllEnd, Err, roam_call_fault, roam_fault}
 use Rattle.locked_net.proofs.CallFaults.{may_answer, may_be_behind}
 use Rattle.locked_net.proofs.Movers.{mover_answers}
 
@@ -102,6 +102,24 @@ pub first_taken : (setting : Setting) (turns count : ℕ) (whole part new rest :
 first_taken setting turns count whole part new rest fault value size few same ends none =
     let rows = splits whole part new rest value (size ∙ few) same in
     subst (λ rs. AllTakeTurns setting turns rs (take 64 (new ++ rest))) (sym rows.olds) (subst (AllTakeTurns setting turns part) (sym rows.news) (all_taken setting turns part new fault none ends))
+
+-- each ended as its own fault says
+pub first_ended : (setting : Setting) (turns count : ℕ) (whole part new rest : List ClerkView) (fault told : Option CallFault) → whole ≡ part ++ rest → length part ≡ count → count ≡ min (length whole) 64 → length new ≡ length part
+    → AllEnd setting turns part new fault → fault ≡ told → AllEnd setting turns (take 64 whole) (take 64 (new ++ rest)) told
+first_ended setting turns count whole part new rest fault told value size few same ends is =
+    let rows = splits whole part new rest value (size ∙ few) same in
+    subst (AllEnd setting turns (take 64 whole) (take 64 (new ++ rest))) is
+    (subst (λ rs. AllEnd setting turns rs (take 64 (new ++ rest)) fault) (sym rows.olds) (subst (λ rs. AllEnd setting turns part rs fault) (sym rows.news) ends))
+
+-- a call's fault, told as one of roaming, and back
+pub told_back : (fault : CallFault) (told : RoamFault) → told ≡ roam_fault fault → Some fault ≡ roam_call_fault (Err told)
+told_back (Behind front seen) told is = sym (ap (λ (f : RoamFault). roam_call_fault (Err f)) is)
+told_back LogFull told is = sym (ap (λ (f : RoamFault). roam_call_fault (Err f)) is)
+told_back Memory told is = sym (ap (λ (f : RoamFault). roam_call_fault (Err f)) is)
+
+-- no clerk, no fault
+pub none_ended : (setting : Setting) (turns : ℕ) (clerks : List ClerkView) → clerks ≡ [] → AllEnd setting turns (take 64 clerks) (take 64 clerks) None
+none_ended setting turns clerks none = subst (λ (cs : List ClerkView). AllEnd setting turns (take 64 cs) (take 64 cs) None) (sym none) refl
 
 -- ---- the fault
 

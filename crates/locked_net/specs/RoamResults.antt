@@ -4,7 +4,7 @@
 -- two turns any caller may have recorded anything. So each turn is taken on a log of its own, which is a run
 -- of the rule machine, and the result of the turn is the result on this log. All these logs begin one log,
 -- which the clerk's note shows afterwards; so they begin the log that settling finds.
-use Rattle.std.specs.Prelude.{◌≡◌, ℕ, zero, suc, ◌<◌, ◌≤◌, ◌⊎◌, List, [], ◌∷◌, ◌++◌, length, take, drop, slice_get, Option, None, Some}
+use Rattle.std.specs.Prelude.{◌≡◌, ℕ, zero, suc, ◌<◌, ◌≤◌, ◌⊎◌, List, [], ◌∷◌, ◌++◌, length, take, drop, slice_get, Option, None, Some, Result, Ok, Err}
 use Rattle.std.specs.List.{All}
 use Rattle.std.specs.Option.{option_or}
 use mathlib.Core.List.{IsPrefix}
@@ -143,3 +143,12 @@ abbrev pub roam_fault : CallFault → RoamFault
 roam_fault (call_fault.Behind front seen) = Behind front seen
 roam_fault call_fault.LogFull = LogFull
 roam_fault call_fault.Memory = Memory
+
+-- the fault of roaming as that of a call; no fault if there was no clerk
+abbrev pub roam_call_fault : Result Unit RoamFault → Option CallFault
+roam_call_fault (Ok done) = None
+roam_call_fault (Err ZeroWorkers) = None
+roam_call_fault (Err Thread) = None
+roam_call_fault (Err (Behind front seen)) = Some (call_fault.Behind front seen)
+roam_call_fault (Err LogFull) = Some call_fault.LogFull
+roam_call_fault (Err Memory) = Some call_fault.Memory

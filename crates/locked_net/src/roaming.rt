@@ -2,7 +2,7 @@
 
 ghost use Rattle.std.specs.Prelude.{◌≡◌, ◌↔◌, [], take, IfErr, OnOk, IsErrOf};
 ghost use Rattle.locked_net.specs.Nets.{book_of, setting_of};
-ghost use Rattle.locked_net.specs.RoamResults.{RoamResult, AllTakeTurns, AllKeepNotes, MayMeetRoamFault};
+ghost use Rattle.locked_net.specs.RoamResults.{AllEnd, RoamResult, AllTakeTurns, AllKeepNotes, MayMeetRoamFault, roam_call_fault};
 ghost use Rattle.locked_net.specs.declared.roam_fault.RoamFault.TheVariants.{ZeroWorkers};
 
 use crate::forks::roam_all;
@@ -26,7 +26,7 @@ pub const MAX_WORKERS: usize = 64;
 /// had no note or got a receipt: only then is the note known to be of this network.
 ///
 /// A worker that meets a fault ends; the other workers go on. The result is the first fault in the clerks'
-/// order. Recorded entries and their receipts stay. Each clerk's note is unchanged or a note of this
+/// order. Clause `ends` has the turns of each clerk up to its own fault, if it met one. Recorded entries and their receipts stay. Each clerk's note is unchanged or a note of this
 /// network; each clerk's base is unchanged.
 ///
 /// `ZeroWorkers` if there is no clerk. A turn may meet the faults of `Clerk::call`. `Thread` never comes:
@@ -44,6 +44,7 @@ pub fn roam<R: Rules + Send, G: Gate + Sync, T: Threads + Wait + Sync>(
 ) -> Result<(), RoamFault>
     ensures roamed { RoamResult turns clerks.old clerks.new }
     ensures turns { OnOk result (AllTakeTurns (setting_of R.table net.now) turns (take 64 clerks.old) (take 64 clerks.new)) }
+    ensures ends { AllEnd (setting_of R.table net.now) turns (take 64 clerks.old) (take 64 clerks.new) (roam_call_fault result) }
     ensures notes { AllKeepNotes (book_of net.now) clerks.old clerks.new }
     ensures none { IsErrOf result ZeroWorkers ↔ (clerks.old ≡ []) }
     ensures fault { IfErr result (λ fault. MayMeetRoamFault clerks.new fault) }

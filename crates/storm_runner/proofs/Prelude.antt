@@ -28,7 +28,7 @@ pub use Rattle.locked_net.specs.ClerkCalls.{some_of}
 pub use Rattle.locked_net.specs.Nets.{setting_of, book_of, beginning_of, name_count_of, first_nodes_of, log_limit_of}
 pub use Rattle.locked_net.specs.PublishedJournals.{PublishedJournalView}
 pub use Rattle.locked_net.specs.Receipts.{ClerkView, front_of, base_from, seen_by, noted, HasNoteOf, IsOfBook, fresh, front_from, greater_base}
-pub use Rattle.locked_net.specs.RoamResults.{AllRoam, RoamResult, KeepsNote, AllKeepNotes, TakesTurns, AllTakeTurns, MayMeetRoamFault}
+pub use Rattle.locked_net.specs.RoamResults.{AllEnd, AllRoam, RoamResult, KeepsNote, AllKeepNotes, EndsOnLog, MayEnd, MayMeetRoamFault, roam_call_fault}
 pub use Rattle.locked_net.specs.Settings.{Setting, IsLogIn}
 pub use Rattle.locked_net.specs.declared.call_fault.CallFault.{CallFault}
 pub use Rattle.locked_net.specs.declared.call_fault.CallFault.TheVariants.{Behind, LogFull, Memory}
@@ -64,7 +64,7 @@ pub use Rattle.storm_runner.specs.RetainedText.{IsWritableEntry, AreWritable}
 pub use Rattle.storm_runner.specs.Outcome.{Leaves, LeavesText, EndsAllScripts, WritesKept, text_of, StormStart, start_setting}
 pub use Rattle.storm_runner.specs.Parts.{FailsToPlay, FailsToWrite}
 pub use Rattle.storm_runner.specs.PlayedCommands.{AddsReceipts, PlayedOn, ToldOn, IsBased, AllStop, scene_of, Plays, TakesTurnsUpTo}
-pub use Rattle.storm_runner.specs.Storm.{IsFor, AreAbove, IsRoaming, IsOfStep, IsOfFault, IsPartOf, AreScriptReceipts, IsLastCheckpoint, StandsInPart, MayEndScript, is_checkpoint, has_checkpoint, AllPlayed, IsStormResult, IsUnsettledStorm}
-pub use Rattle.storm_runner.specs.StormRoamers.{RoamResultOfNew, roam_call_fault}
+pub use Rattle.storm_runner.specs.Storm.{IsFor, AreAbove, IsRoaming, IsOfStep, IsOfFault, IsPartOf, AreScriptReceipts, IsLastCheckpoint, StandsInPart, MayEndScript, is_checkpoint, has_checkpoint, AllPlayed, AllRoamed, IsStormResult, IsUnsettledStorm}
+pub use Rattle.storm_runner.specs.StormRoamers.{AllRoamedOnNotes, RoamResultOfNew}
 pub use Rattle.storm_runner.specs.Turns.{Scene, IsTurn, AreTurns, DrawnFrom, IsLogBehind, TakesChosenEvent, Draw, Gains, IsIdleBehind, IsQuiet, IsEmpty}
 pub use Rattle.storm_runner.specs.declared.fault.StormFault.{StormFault}

@@ -14,6 +14,7 @@ use Rattle.rule_machine.specs.declared.choice.Item.{Item}
 use Rattle.rule_machine.specs.declared.act.Moved.{Moved}
 use Rattle.rule_machine.specs.declared.event.Event.TheVariants.{Step}
 use Rattle.rule_machine.specs.declared.reply.Reply.TheVariants.{Accepted, Moves}
+use Rattle.rule_machine.specs.Run.{Entry}
 use Rattle.fault_injector.specs.DrawnFaults.{is_register_fault}
 use Rattle.step_log.specs.declared.receipt.Receipt.{Receipt}
 use Rattle.step_log.specs.RetainedLogs.{RetainedLog}
@@ -21,10 +22,10 @@ use Rattle.seeded_turns.specs.DrawnEvents.{seeded_stream, drawn_step, drawn_faul
 use Rattle.script_text.specs.declared.command.Command.{Command}
 use Rattle.script_text.specs.declared.command.Command.TheVariants.{Tell, Drive, Scramble, Checkpoint}
 use Rattle.locked_net.specs.RetainedParts.{IsPartOfLog}
-use Rattle.locked_net.specs.Receipts.{ClerkView, front_from, front_of, base_from, base_number}
+use Rattle.locked_net.specs.Receipts.{ClerkView, front_from, front_of, base_from, base_number, fresh}
 use Rattle.locked_net.specs.Settings.{Setting}
 use Rattle.locked_net.specs.Settlements.{Settlement, Unsettles}
-use Rattle.locked_net.specs.RoamResults.{IsLoneStep, TakesTurns}
+use Rattle.locked_net.specs.RoamResults.{IsLoneStep, MayEnd}
 use Rattle.locked_net.specs.declared.call_fault.CallFault.{CallFault}
 use Rattle.locked_net.specs.declared.settle_fault.SettleFault.{SettleFault}
 use Rattle.script_text.specs.declared.script.ScriptLine.{ScriptLine}
@@ -137,10 +138,17 @@ AllPlayed scene scripts clerks fault = ⊥
 abbrev pub IsRoaming : ℕ → List Receipt → Type 0
 IsRoaming turns own = (length own ≤ turns) × All IsLoneStep own
 
+-- Each worker took all its turns, or turns up to a fault that it met, each on a beginning of the log: in turn t
+-- the node moved whose turn it was in the state there, or no node was enabled there. The fault is the first that
+-- a worker met, in the order of the workers; there is no fault if each worker took all its turns.
+abbrev pub AllRoamed : Setting → List Entry → ℕ → List ClerkView → Option CallFault → Type 0
+AllRoamed setting log turns [] fault = fault ≡ None
+AllRoamed setting log turns (clerk ∷ clerks) fault =
+    (own : Option CallFault) × (others : Option CallFault) × (fault ≡ option_or own others) × MayEnd setting log turns fresh clerk own × AllRoamed setting log turns clerks others
+
 -- The clerks of a storm are one for each script, which played the script, and then one for each worker, which
--- roamed. The fault is the first that a script met, in the order of the scripts, or else a fault that a
--- worker met. If no worker met a fault, each worker took all its turns, each on a beginning of the log: in
--- turn t the node moved whose turn it was in the state there, or no node was enabled there.
+-- roamed. The fault is the first that a script met, in the order of the scripts, or else the first that a worker
+-- met.
 pub record AllTold (scene : Scene) (scripts : List (List ScriptLine)) (roamers turns : ℕ) (clerks : List ClerkView) (fault : Option CallFault) : Type 0 where
   pub own : List ClerkView
   pub roaming : List ClerkView
@@ -153,7 +161,7 @@ pub record AllTold (scene : Scene) (scripts : List (List ScriptLine)) (roamers t
   pub unbased : All (λ clerk. clerk.base ≡ None) roaming
   pub first : fault ≡ option_or met other
   pub nobody : roamers ≡ 0 → other ≡ None
-  pub whole : other ≡ None → All (λ clerk. TakesTurns scene.setting scene.log turns [] clerk.receipts) roaming
+  pub ended : AllRoamed scene.setting scene.log turns roaming other
 
 -- What these scripts leave with these workers, and the first fault. The clerks account for the kept log,
 -- which is the part of a whole log after the last checkpoint. Each turn of a script or worker was taken on a
