@@ -4,7 +4,7 @@ use Rattle.locked_net.proofs.ReceiptAddition.{front_after, seen_few}
 use Rattle.locked_net.proofs.ChosenEvents.{begins_in}
 
 same_key : (before : PublishedJournalView) → KeepsKey before before
-same_key before = record { nodes = refl; present = refl; begun = refl; limit = refl; name = refl; base = refl }
+same_key before = record { nodes = refl; present = refl; begun = refl; limit = refl; name = refl; base = refl; counts = refl; from = refl }
 
 -- a call that failed and changed nothing
 pub failed : {A E : Type 0} (Answers : A → Type 0 → Type 0 → Type 0) (held : PublishedJournalView) (clerk : ClerkView) (fault : E) → HeldCall Answers held held clerk clerk (Err fault)

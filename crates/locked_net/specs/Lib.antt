@@ -1,6 +1,7 @@
 pub mod Receipts
 pub mod Settlements
 pub mod WholeLogs
+pub mod CountedLogs
 pub mod Settings
 pub mod RetainedParts
 pub mod Calls

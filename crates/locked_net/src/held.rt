@@ -18,10 +18,11 @@ mod chosen;
 mod judged;
 mod lone;
 mod looks;
+mod rounds;
 
 /// A network whose lock the caller has until `free`. Cannot be dropped: `free` ends it.
 /// Contracts see the whole published log from its beginning, dropped entries included; the base of the kept
-/// part; and the board's name.
+/// part; the board's name; the count of rounds, if they are counted; and after which entry counting began.
 pub struct HeldNet<'a, R: Rules> {
     net: &'a LockedNet<R>,
     desk: Box<PublishedJournal<R>>,

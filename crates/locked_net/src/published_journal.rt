@@ -1,17 +1,20 @@
 //! What a network's lock guards.
 
-ghost use Rattle.std.specs.Prelude.{◌≡◌, ◌+◌, ◌↔◌, [], length, IfOk, IfSome, OnOk, OnErr, IsErrOf, IsTrue};
+ghost use Rattle.std.specs.Prelude.{◌≡◌, ◌+◌, ◌↔◌, [], length, IfOk, None, IfSome, OnOk, OnErr, IsErrOf, IsTrue};
 ghost use Rattle.rule_machine.specs.declared.event.Event.TheVariants.{Step};
+ghost use Rattle.round_laws.specs.RoundCounts.{next_counting};
 ghost use Rattle.rule_engine.specs.ChoiceMoves.{verdicts_of};
+ghost use Rattle.rule_engine.specs.RoundsLeft.{LeavesIfCounted, rounds_left};
 ghost use Rattle.step_log.specs.declared.fault.RecordFault.TheVariants.{LogFull};
 ghost use Rattle.step_log.specs.JournalViews.{IsNextReceipt, kept_of};
 ghost use Rattle.snapshots.specs.Row.{IsRun};
-ghost use Rattle.step_log.specs.RetainedLogs.{IsRetainedRun, last_number, kept_with, next_receipt};
+ghost use Rattle.step_log.specs.RetainedLogs.{IsRetainedRun, last_number, moment_in, kept_with, next_receipt};
 ghost use Rattle.locked_net.specs.WholeLogs.{IsWholeLog};
+ghost use Rattle.locked_net.specs.CountedLogs.{CountsWholeLog};
 ghost use Rattle.locked_net.specs.RetainedParts.{IsLogAboveBase, log_over};
-ghost use Rattle.locked_net.specs.PublishedJournals.{IsPublishedJournal, based, KeepsKey};
+ghost use Rattle.locked_net.specs.PublishedJournals.{IsPublishedJournal, based, counting_held, KeepsKey};
 
-use rule_engine::{Choice, Event, Net, Reply, Rules, Verdict, Want};
+use rule_engine::{Choice, Event, Net, NodeBound, Reply, Rules, Verdict, Want};
 use rule_machine::Base;
 use snapshots::{Board, NoPlace, Note, Reader, Runs};
 use std::alloc::{AllocError, Global};
@@ -23,11 +26,12 @@ use step_log::{Journal, Prepared, Receipt, RecordFault};
 const READERS: usize = 64;
 
 /// A journal and the board that publishes all its entries. Cannot be dropped: `close` ends it.
-/// Contracts see the whole published log from its beginning, dropped entries included; the journal's base; and
-/// the board's name.
+/// Contracts see the whole published log from its beginning, dropped entries included; the journal's base;
+/// the board's name; the count of rounds, if they are counted; and after which entry counting began.
 pub(crate) struct PublishedJournal<R: Rules> {
     journal: Journal<R>,
     board: Board<Runs<R>>,
+    counted_from: Option<u32>,
 }
 
 impl<R: Rules> Model for PublishedJournal<R> {
@@ -36,15 +40,22 @@ impl<R: Rules> Model for PublishedJournal<R> {
     ghost use Rattle.logbook.specs.Pages.{book_coded};
     ghost use Rattle.step_log.specs.JournalViews.{kept_of};
     ghost use Rattle.locked_net.specs.RetainedParts.{log_over};
+    ghost use Rattle.locked_net.specs.CountedLogs.{IsCountedLog};
     ghost use Rattle.locked_net.specs.PublishedJournals.{PublishedJournalView, IsPublishedJournal};
 
     ghost Value = { PublishedJournalView };
 
     ghost coded = { Prim.hlevel (codes, state_code, book_coded) };
 
-    ghost view = { λ d. record { log = log_over (kept_of d.journal) d.board; base = d.journal.base; name = d.board.name } };
+    ghost view = { λ d. record {
+      log = log_over (kept_of d.journal) d.board;
+      base = d.journal.base;
+      name = d.board.name;
+      counting = d.journal.counting;
+      counted_from = d.counted_from;
+    } };
 
-    ghost invariant = { λ d. IsPublishedJournal R.table (kept_of d.journal) d.board };
+    ghost invariant = { λ d. IsPublishedJournal R.table (kept_of d.journal) d.board × IsCountedLog R.table (log_over (kept_of d.journal) d.board) d.counted_from d.journal.counting };
 }
 
 #[derive(Drop)]
@@ -57,6 +68,7 @@ pub(crate) struct RecordedEvent {
 
 impl<R: Rules> PublishedJournal<R> {
     /// The journal has no entry, and begins at `base`, if any; `present` nodes are there at its start.
+    /// If its network counts rounds, it counts on: then counting began before the network's beginning.
     pub(crate) fn begin(
         alloc: Global,
         journal: Journal<R>,
@@ -69,11 +81,17 @@ impl<R: Rules> PublishedJournal<R> {
         requires base { journal.base ≡ base.now }
         requires counted { IfSome base.now (λ b. present ≡ length b.nodes) }
         ensures log { IfOk result (λ desk. desk.log ≡ kept_of journal) }
+        ensures counting { IfOk result (λ desk. desk.counting ≡ journal.counting) }
+        ensures from { IfOk result (λ desk. desk.counted_from ≡ None) }
         ensures extent { IfOk result (λ desk. desk.name.extent ≡ record { places = journal.state.network.size + 1; present = present; base = base.now }) }
     {
         let places = journal.net().store().capacity() as usize + 1;
         let board = board_at(alloc, places, present, base)?;
-        Ok(PublishedJournal { journal, board })
+        Ok(PublishedJournal {
+            journal,
+            board,
+            counted_from: None,
+        })
     }
 
     pub(crate) fn len(&self) -> u32
@@ -99,9 +117,21 @@ impl<R: Rules> PublishedJournal<R> {
     pub(crate) fn net(&self) -> &Net<R>
         ensures state { result.now.state ≡ self.now.log.state }
         ensures spent { result.now.spent ≡ self.now.log.spent }
+        ensures counting { result.now.counting ≡ self.now.counting }
+        ensures counted { CountsWholeLog R.table self.now.log self.now.counted_from self.now.counting }
         ensures run { IsWholeLog R.table self.now.log }
     {
         self.journal.net()
+    }
+
+    pub(crate) fn count_rounds(&mut self) -> Result<(), Want>
+        ensures ok { OnOk result (self.new ≡ counting_held R.table self.old) }
+        ensures err { OnErr result (self.new ≡ self.old) }
+    {
+        let last = self.journal.len();
+        self.journal.count_rounds()?;
+        self.counted_from = Some(last);
+        Ok(())
     }
 
     pub(crate) fn note(&self) -> Note
@@ -123,6 +153,7 @@ impl<R: Rules> PublishedJournal<R> {
         ensures full { IsErrOf result LogFull → last_number self.old.log ≡ self.old.log.limit }
         ensures kept { OnErr result (self.new ≡ self.old) }
         ensures key { KeepsKey self.old self.new }
+        ensures counting { IfOk result (λ told. self.new.counting ≡ next_counting R.table told.reply self.new.log.state self.old.counting) }
     {
         let prepared = self.journal.prepare(event)?;
         Ok(finish(&mut self.journal, &mut self.board, rt, prepared)?)
@@ -142,6 +173,7 @@ impl<R: Rules> PublishedJournal<R> {
         ensures full { IsErrOf result LogFull → last_number self.old.log ≡ self.old.log.limit }
         ensures kept { OnErr result (self.new ≡ self.old) }
         ensures key { KeepsKey self.old self.new }
+        ensures counting { IfOk result (λ told. self.new.counting ≡ next_counting R.table told.reply self.new.log.state self.old.counting) }
     {
         let prepared = self.journal.prepare_step(choice, verdicts)?;
         Ok(finish(&mut self.journal, &mut self.board, rt, prepared)?)
@@ -170,10 +202,24 @@ impl<R: Rules> PublishedJournal<R> {
         ensures above { IsLogAboveBase R.table self.log (kept_of result) }
         ensures run { IsWholeLog R.table self.log }
     {
-        let PublishedJournal { journal, board } = self;
+        let PublishedJournal {
+            journal,
+            board,
+            counted_from: _,
+        } = self;
         board.end(rt);
         prove!(journal.len() <= step_log::MAX_ENTRIES);
         journal
+    }
+}
+
+impl<R: NodeBound> PublishedJournal<R> {
+    pub(crate) fn rounds_left(&mut self) -> Option<u32>
+        ensures value { result ≡ rounds_left R.table R.most R.rounds self.old.log.state self.old.counting }
+        ensures left { LeavesIfCounted R.table (moment_in self.old.log) self.old.counting result }
+        ensures kept { self.new ≡ self.old }
+    {
+        self.journal.rounds_left()
     }
 }
 
@@ -211,6 +257,8 @@ fn finish<R: Rules, W: Wait>(
     ensures note { IfOk result (λ told. (told.note.log ≡ board.new.list) × (told.note.book ≡ board.old.name.book) × (told.note.base ≡ board.old.name.extent.base)) }
     ensures name { board.new.name ≡ board.old.name }
     ensures kept { OnErr result ((kept_of journal.new ≡ kept_of journal.old) × (board.new.list ≡ board.old.list)) }
+    ensures counting { OnOk result (journal.new.counting ≡ next_counting R.table prepared.reply journal.new.state journal.old.counting) }
+    ensures kept_counting { OnErr result (journal.new.counting ≡ journal.old.counting) }
 {
     let reply = prepared.receipt().reply.clone()?;
     let entry = prepared.entry();
