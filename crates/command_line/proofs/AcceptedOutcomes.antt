@@ -11,8 +11,9 @@ use Rattle.script_run.specs.Outcome as outcome
 use Rattle.auditor.specs.declared.transcript_end.TranscriptEnd.{TranscriptEnd}
 use Rattle.auditor.specs.TranscriptEnds.{IsTranscriptEnd}
 use Rattle.entry_grammar.specs.Spelling.{max_entries}
-use Rattle.command_line.specs.Written.{EndsAccepted, IsAcceptedBehind, IsAcceptedRun, LinesReachEnd, start_behind}
-use Rattle.command_line.proofs.AcceptedLaws.{alone_accepted, joined_accepted, runs_accepted}
+use Rattle.transcript_laws.specs.Written.{LinesReachEnd, start_behind}
+use Rattle.transcript_laws.proofs.AcceptedLaws.{alone_accepted, joined_accepted, runs_accepted}
+use Rattle.command_line.specs.RunTexts.{EndsAccepted, IsAcceptedBehind, IsAcceptedRun}
 
 module _ (t : RuleTable) (limit : ℕ) (lines : List (List ℕ)) (start : Progress) (Accepted : Progress → Type 0) (accepts : (some : List (List ℕ)) (end : Progress) → LinesReachEnd t limit some start end → Accepted end) (P Q : List ℕ → Type 0) where
   full : (end : Progress) → outcome.StopsAtFullLog t limit lines start end → Accepted end

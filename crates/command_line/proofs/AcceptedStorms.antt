@@ -29,9 +29,9 @@ use Rattle.storm_runner.specs.declared.fault.StormFault.{StormFault}
 use Rattle.storm_runner.specs.declared.fault.StormFault.TheVariants.{TooManyScripts, BadLine, LogFull, Read, Write, Memory, Behind, Thread, Unsettled}
 use Rattle.storm_runner.specs.Outcome.{EndsAllScripts, IsResumedStorm, Leaves, LeavesText, StormStart, resumed_start, text_of}
 use Rattle.storm_runner.specs.RetainedText.{AreWritable, retained_opening}
+use Rattle.transcript_laws.specs.Written.{log_text, opening_of}
+use Rattle.transcript_laws.proofs.KeptLogs.{kept_accepted}
 use Rattle.command_line.specs.StormTexts.{IsAcceptedLog, IsAcceptedLogBehind, LeavesAccepted, WritesAccepted}
-use Rattle.command_line.specs.Written.{log_text, opening_of}
-use Rattle.command_line.proofs.KeptLogs.{kept_accepted}
 
 values_of : (log : List Entry) → AreWritable log → AllByRecursion IsEntryValue log
 values_of [] all = tt

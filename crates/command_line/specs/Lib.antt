@@ -12,5 +12,5 @@ pub mod FileNotes
 pub mod RunNotes
 pub mod FileEnds
 pub mod WriterStates
-pub mod Written
+pub mod RunTexts
 pub mod StormTexts

@@ -9,7 +9,7 @@ use Rattle.script_run.specs.declared.fault.RunFault.{RunFault}
 use Rattle.script_run.specs.declared.fault.RunFault.TheVariants.{Memory}
 use Rattle.script_run.specs.Outcome.{IsRunOutcome}
 use Rattle.run_session.specs.RunStart.{first_progress}
-use Rattle.command_line.specs.Written.{EndsAcceptedFrom, IsAcceptedRun}
+use Rattle.command_line.specs.RunTexts.{EndsAcceptedFrom, IsAcceptedRun}
 use Rattle.cli_args.specs.declared.task.Task.{Task}
 use Rattle.cli_args.specs.declared.task.Task.TheVariants as variants
 use Rattle.cli_args.specs.declared.task.Task.TheVariants.{Run, Resume, Audit, Picture, Epochs, ResumeStorm, Show}

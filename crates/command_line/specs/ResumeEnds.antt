@@ -12,7 +12,7 @@ use Rattle.auditor.specs.TranscriptEnds.{IsEndResult, MayGoOn}
 use Rattle.script_run.specs.declared.fault.RunFault.{RunFault}
 use Rattle.script_run.specs.declared.fault.RunFault.TheVariants as run
 use Rattle.script_run.specs.Outcome.{EndsFrom}
-use Rattle.command_line.specs.Written.{EndsAcceptedFrom, IsAcceptedBehind}
+use Rattle.command_line.specs.RunTexts.{EndsAcceptedFrom, IsAcceptedBehind}
 use Rattle.script_run.specs.Restarts.{RestartView, options_at}
 use Rattle.cli_args.specs.TaskWords.{ResumedStorm}
 use Rattle.command_line.specs.declared.verdict.CheckEnd.TheVariants as verdict

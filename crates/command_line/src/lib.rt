@@ -28,10 +28,7 @@ mod verdict;
 mod verdict_line;
 mod viewing;
 
-pub use accepted::{
-    continued_runs_are_accepted, kept_logs_are_accepted, outcomes_are_accepted, runs_are_accepted,
-    runs_stay_transcripts, sessions_stay_transcripts, storms_are_accepted,
-};
+pub use accepted::{outcomes_are_accepted, storms_are_accepted};
 pub use file_fault::FileFault;
 pub use law::one_verdict;
 pub use program::{start, status, tell, tell_no_words};

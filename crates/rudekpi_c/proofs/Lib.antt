@@ -18,3 +18,5 @@ pub mod Renumbering
 pub mod Resumption
 pub mod RowOutput
 pub mod RoundCalls
+pub mod SessionTexts
+pub mod RunningSessions

@@ -19,3 +19,4 @@ pub mod MovesLeftCalls
 pub mod SilentDrives
 pub mod SilentCosts
 pub mod StateViews
+pub mod SessionTexts

@@ -17,6 +17,7 @@
 //! ```
 #![tactic(auto)]
 
+mod accepted;
 mod audit_slot;
 mod audits;
 mod call_result;
@@ -44,3 +45,5 @@ mod status;
 mod status_counts;
 mod verdict;
 mod version;
+
+pub use accepted::{session_texts_are_accepted, session_texts_begin_anew};

@@ -15,8 +15,8 @@ use Rattle.daemon.specs.DrawnChoices.{choice_drawn, draw, draw_odd, draw_one, ke
 use Rattle.fault_injector.specs.DrawnFaults.{either_fault, fault_at, fault_drawn, flag_fault, is_odd, node_at, pointer_at, pointer_fault, rest, word}
 use Rattle.seeded_turns.specs.DrawnEvents.{Draws, drawn_fault, drawn_step}
 use Rattle.step_log.proofs.ReplyKinds.{nodes_few}
-use Rattle.command_line.proofs.Lists.{all_at, all_kept, few_kept, some_at}
-use Rattle.command_line.proofs.Replies.{names_named, near_named}
+use Rattle.transcript_laws.proofs.Lists.{all_at, all_kept, few_kept, some_at}
+use Rattle.transcript_laws.proofs.Replies.{names_named, near_named}
 
 -- whatever is drawn in a state of so few names is an event
 abbrev pub DrawEvents : Draws → RuleTable → Type 0

@@ -22,7 +22,7 @@ use Rattle.auditor.specs.Transcript.{IsLogPart, IsTranscript}
 use Rattle.auditor.proofs.Spent.{is_table}
 use Rattle.auditor.proofs.Steps.{parts_add, parts_text_add, passes_add}
 use Rattle.audit_parts.proofs.CutTranscripts.{Reopens, reopens_end}
-use Rattle.command_line.proofs.Replies.{IsWithin, reply_in}
+use Rattle.transcript_laws.proofs.Replies.{IsWithin, reply_in}
 
 -- the machine's reply at a moment
 abbrev pub reply_at : RuleSet → NumberedMoment → Event → Reply

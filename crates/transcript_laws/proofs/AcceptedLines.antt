@@ -23,39 +23,43 @@ use Rattle.run_session.specs.Line.{TurnsBegin, CommandBegins, CommandEnds, LineE
 use Rattle.seeded_turns.specs.DrawnEvents.{Draws, drawn_fault, drawn_step, seeded_stream}
 use Rattle.auditor.specs.Parts.{Opening}
 use Rattle.auditor.specs.Transcript.{IsTranscript}
-use Rattle.command_line.specs.Written.{IsWrittenBehind, LinesReachEnd, moment_of}
-use Rattle.command_line.proofs.Draws.{DrawEvents, faults_are_events, steps_are_events}
-use Rattle.command_line.proofs.Growth.{base_added, entry_added, size_few}
+use Rattle.transcript_laws.specs.Written.{IsWrittenAfter, IsWrittenBehind, LinesReachEnd, moment_of}
+use Rattle.transcript_laws.proofs.Draws.{DrawEvents, faults_are_events, steps_are_events}
+use Rattle.transcript_laws.proofs.Growth.{base_added, entry_added, size_few}
 
 same_progress : (p q : Progress) → p.rules ≡ q.rules → p.moment ≡ q.moment → p.count ≡ q.count → p.text ≡ q.text → p.counting ≡ q.counting → p ≡ q
 same_progress p q a b c d e = λ i. record { rules = a i; moment = b i; count = c i; text = d i; counting = e i }
 
-module _ (first : List ℕ) (o : Opening) (rules : RuleSet) (limit : ℕ) (few : limit ≤ max_entries) where
+-- what is appended to a text is appended to its second part
+longer : (text ended own more : List ℕ) → text ≡ ended ++ own → text ++ more ≡ ended ++ (own ++ more)
+longer text ended own more split = ap (λ (l : List ℕ). l ++ more) split ∙ append_assoc ended own more
+
+module _ (ended first : List ℕ) (o : Opening) (rules : RuleSet) (limit : ℕ) (few : limit ≤ max_entries) where
   -- written by these rules
   abbrev Well : Progress → Type 0
-  Well p = (p.rules ≡ rules) × IsWrittenBehind first o p
+  Well p = (p.rules ≡ rules) × IsWrittenAfter ended first o p
 
   named : (p : Progress) → Well p → p.moment.state.network.size ≤ 65535
-  named p (same, (log, is)) = size_few (first ++ p.text) p.rules o log (moment_of p) is
+  named p (same, (own, split, (log, is))) = size_few (first ++ own) p.rules o log (moment_of p) is
 
   appended : (event : Event) (before after : Progress) → IsEvent event → before.count < limit → AppendsEntry (table_of rules) event before after → Well before → Well after
-  appended event before after fits room does (same, (log, is)) =
+  appended event before after fits room does (same, (own, split, (log, is))) =
       let t = table_of before.rules in
       let reply = reply_of t before.moment.state before.moment.spent event in
       let line = entry_line (before.count + 1) event reply in
       let next : Progress = record { rules = before.rules; moment = moment_after t before.moment event; count = before.count + 1; text = before.text ++ line; counting = after.counting } in
-      let more = entry_added (first ++ before.text) before.rules o log (moment_of before) is event fits (omega (arith, few, room)) in
-      let whole : IsTranscript (first ++ next.text) next.rules o (log ++ EntryPart (event, reply) ∷ []) (moment_of next) = subst (λ (l : List ℕ). IsTranscript l before.rules o (log ++ EntryPart (event, reply) ∷ []) (moment_of next)) (append_assoc first before.text line) more in
+      let more = entry_added (first ++ own) before.rules o log (moment_of before) is event fits (omega (arith, few, room)) in
+      let whole : IsTranscript (first ++ (own ++ line)) next.rules o (log ++ EntryPart (event, reply) ∷ []) (moment_of next) = subst (λ (l : List ℕ). IsTranscript l before.rules o (log ++ EntryPart (event, reply) ∷ []) (moment_of next)) (append_assoc first own line) more in
       let moments : after.moment ≡ next.moment = does.moment ∙ ap (λ (r : RuleSet). moment_after (table_of r) before.moment event) (sym same) in
       let texts : after.text ≡ next.text = does.text ∙ ap (λ (r : RuleSet). before.text ++ entry_line (before.count + 1) event (reply_of (table_of r) before.moment.state before.moment.spent event)) (sym same) in
       let lands = same_progress after next does.rules moments does.count texts refl in
-      (does.rules ∙ same, subst (IsWrittenBehind first o) (sym lands) (log ++ EntryPart (event, reply) ∷ [], whole))
+      (does.rules ∙ same, subst (IsWrittenAfter ended first o) (sym lands) (own ++ line, longer before.text ended own line split, (log ++ EntryPart (event, reply) ∷ [], whole)))
 
-  based : (before : Progress) → Well before → Well (with_checkpoint before)
-  based before (same, (log, is)) =
+  pub based : (before : Progress) → Well before → Well (with_checkpoint before)
+  based before (same, (own, split, (log, is))) =
       let base = base_of before.count before.moment in
       let text = base_text before.rules before.moment.state.network.size base in
-      (same, (log ++ BasePart base ∷ [], subst (λ (l : List ℕ). IsTranscript l before.rules o (log ++ BasePart base ∷ []) (moment_of before)) (append_assoc first before.text text) (base_added (first ++ before.text) before.rules o log (moment_of before) is)))
+      (same, (own ++ text, longer before.text ended own text split, (log ++ BasePart base ∷ [], subst (λ (l : List ℕ). IsTranscript l before.rules o (log ++ BasePart base ∷ []) (moment_of before)) (append_assoc first own text) (base_added (first ++ own) before.rules o log (moment_of before) is))))
 
   stays : (before after : Progress) → after ≡ before → Well before → Well after
   stays before after is well = subst Well (sym is) well
@@ -141,7 +145,16 @@ module _ (first : List ℕ) (o : Opening) (rules : RuleSet) (limit : ℕ) (few :
   all_lines (line ∷ lines) before after (next, does, rest) well =
       all_lines lines next after rest (one_line line before next does well)
 
-  pub reached : (lines : List (List ℕ)) (start end : Progress) → start.rules ≡ rules → IsWrittenBehind first o start → LinesReachEnd (table_of rules) limit lines start end → Well end
+  pub reached : (lines : List (List ℕ)) (start end : Progress) → start.rules ≡ rules → IsWrittenAfter ended first o start → LinesReachEnd (table_of rules) limit lines start end → Well end
   reached lines start end same written (inl does) = all_lines lines start end does (same, written)
   reached lines start end same written (inr (line, before, does, (c, says, fills))) =
       filled c before end fills (all_lines lines start before does (same, written))
+
+-- ---- without earlier transcripts
+
+-- nothing comes before the text
+pub from_start : (first : List ℕ) (o : Opening) (p : Progress) → IsWrittenBehind first o p → IsWrittenAfter [] first o p
+from_start first o p is = (p.text, refl, is)
+
+pub to_start : (first : List ℕ) (o : Opening) (p : Progress) → IsWrittenAfter [] first o p → IsWrittenBehind first o p
+to_start first o p (own, split, (log, is)) = (log, subst (λ (l : List ℕ). IsTranscript (first ++ l) p.rules o log (moment_of p)) (sym split) is)

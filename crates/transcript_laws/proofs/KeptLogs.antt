@@ -22,7 +22,7 @@ use Rattle.auditor.specs.Parts.{Opens, opening_text, parts_text, size_of}
 use Rattle.auditor.specs.Transcript.{IsEntryValue, IsLogPart, IsTranscript, epoch_count, move_count}
 use Rattle.auditor.proofs.Spent.{light}
 use Rattle.audit_parts.proofs.Shape.{base_shaped}
-use Rattle.command_line.specs.Written.{log_text, opening_of}
+use Rattle.transcript_laws.specs.Written.{log_text, opening_of}
 
 -- ---- entries as parts
 

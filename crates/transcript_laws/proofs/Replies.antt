@@ -21,7 +21,7 @@ use Rattle.machine_laws.proofs.Pointers.{partner_some, pointer_linked}
 use Rattle.line_text.specs.ReplyText.{IsCountValue, IsEnabled, IsMoved, IsOrderedPair, IsReply}
 use Rattle.line_text.specs.Words.{IsName}
 use Rattle.step_log.proofs.ReplyKinds.{nodes_few}
-use Rattle.command_line.proofs.Lists.{all_given, all_kept, all_passing, all_weaker, few_kept, if_some, if_some_of}
+use Rattle.transcript_laws.proofs.Lists.{all_given, all_kept, all_passing, all_weaker, few_kept, if_some, if_some_of}
 
 -- ---- names
 

@@ -17,9 +17,9 @@ use Rattle.auditor.specs.Parts.{Based, Named, Opening, size_of}
 use Rattle.auditor.specs.Transcript.{IsTranscript, epoch_count, move_count}
 use Rattle.auditor.specs.TranscriptEnds.{IsTranscriptEnd, end_moment}
 use Rattle.audit_parts.proofs.CutTranscripts.{reopens_end}
-use Rattle.command_line.specs.Written.{IsWrittenBehind, LinesReachEnd, moment_of, start_behind}
-use Rattle.command_line.proofs.Growth.{base_added, size_same}
-use Rattle.command_line.proofs.AcceptedLines.{reached}
+use Rattle.transcript_laws.specs.Written.{IsWrittenBehind, LinesReachEnd, moment_of, start_behind}
+use Rattle.transcript_laws.proofs.Growth.{base_added, size_same}
+use Rattle.transcript_laws.proofs.AcceptedLines.{from_start, reached, to_start}
 
 -- the counts of a log
 abbrev pub summary_of : List Entry → Summary
@@ -58,7 +58,7 @@ pub runs_accepted : (rules : RuleSet) (nodes present limit : ℕ) (lines : List 
 runs_accepted rules nodes present limit lines end few within most reach =
     let start = first_progress rules nodes present in
     let o = Named nodes present in
-    let ends = (reached [] o rules limit most lines start end refl (first_written rules nodes present few within) reach).1 in
+    let ends = to_start [] o end (reached [] [] o rules limit most lines start end refl (from_start [] o start (first_written rules nodes present few within)) reach).1 in
     let is = ends.1 in
     let all = counted end.text end.rules o ends.0 (moment_of end) is in
     let none = is.opens.count in
@@ -93,7 +93,7 @@ module _ (first : List ℕ) (from : TranscriptEnd) (is : IsTranscriptEnd first f
 
   pub alone_accepted : (limit : ℕ) (lines : List (List ℕ)) (end : Progress) → limit ≤ max_entries → LinesReachEnd (table_of from.rules) limit lines (start_behind from) end → (c : Summary) × IsAccepted end.text c × (c.entries + from.number ≡ end.count)
   alone_accepted limit lines end most reach =
-      let ends = (reached [] own_base from.rules limit most lines (start_behind from) end refl own_start reach).1 in
+      let ends = to_start [] own_base end (reached [] [] own_base from.rules limit most lines (start_behind from) end refl (from_start [] own_base (start_behind from) own_start) reach).1 in
       let run = ends.1 in
       let all = counted end.text end.rules own_base ends.0 (moment_of end) run in
       let before = run.opens.count in
@@ -103,7 +103,7 @@ module _ (first : List ℕ) (from : TranscriptEnd) (is : IsTranscriptEnd first f
   pub joined_accepted : (limit : ℕ) (lines : List (List ℕ)) (end : Progress) → limit ≤ max_entries → LinesReachEnd (table_of from.rules) limit lines (start_behind from) end → (c : Summary) × IsAccepted (first ++ end.text) c × (c.entries + from.number ≡ from.summary.entries + end.count)
   joined_accepted limit lines end most reach =
       let o = is.opening in
-      let ends = (reached first o from.rules limit most lines (start_behind from) end refl joined_start reach).1 in
+      let ends = to_start first o end (reached [] first o from.rules limit most lines (start_behind from) end refl (from_start first o (start_behind from) joined_start) reach).1 in
       let run = ends.1 in
       let all = counted (first ++ end.text) end.rules o ends.0 (moment_of end) run in
       let begun = run.opens.count in

@@ -1,6 +1,6 @@
-use Rattle.command_line.proofs.AcceptedLaws.{first_written, joined_start, own_start}
-use Rattle.command_line.proofs.Sessions.{command_stays, line_stays, text_accepted, text_taken}
-use Rattle.command_line.proofs.accepted.sessions_stay_transcripts.Goals as goal
+use Rattle.transcript_laws.proofs.AcceptedLaws.{first_written, joined_start, own_start}
+use Rattle.transcript_laws.proofs.Sessions.{command_stays, line_stays, text_accepted, text_taken}
+use Rattle.transcript_laws.proofs.law.sessions_stay_transcripts.Goals as goal
 
 pub returns-clause-begins : goal.returns-clause-begins
 returns-clause-begins c = first_written

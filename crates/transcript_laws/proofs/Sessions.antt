@@ -1,5 +1,5 @@
 -- The text of a session is a transcript, call by call.
-use Rattle.std.proofs.Common.{◌≡◌, ℕ, ◌+◌, ◌≤◌, List, ◌++◌, Result, refl, sym, subst, append-nil, arith}
+use Rattle.std.proofs.Common.{◌≡◌, ℕ, ◌+◌, ◌≤◌, List, [], ◌++◌, Result, refl, sym, subst, append-nil, arith}
 use Rattle.rule_machine.specs.Base.{entries_in}
 use Rattle.rule_machine.specs.Tables.{table_of}
 use Rattle.entry_grammar.specs.Spelling.{max_entries}
@@ -13,17 +13,17 @@ use Rattle.auditor.specs.declared.summary.Summary.{Summary}
 use Rattle.auditor.specs.AcceptedRuns.{IsAccepted}
 use Rattle.auditor.specs.Parts.{Opening}
 use Rattle.auditor.specs.Transcript.{IsTranscript}
-use Rattle.command_line.specs.Written.{IsWrittenBehind, entries_before, moment_of, without_text}
-use Rattle.command_line.proofs.AcceptedLaws.{accepted, counted, summary_of}
-use Rattle.command_line.proofs.AcceptedLines.{command_ended, line_ended}
+use Rattle.transcript_laws.specs.Written.{IsWrittenBehind, entries_before, moment_of, without_text}
+use Rattle.transcript_laws.proofs.AcceptedLaws.{accepted, counted, summary_of}
+use Rattle.transcript_laws.proofs.AcceptedLines.{command_ended, from_start, line_ended, to_start}
 
 pub line_stays : (first : List ℕ) (o : Opening) (limit number : ℕ) (line : List ℕ) (before after : Progress) (result : Result Unit LineError) → limit ≤ max_entries → IsWrittenBehind first o before → LineEnds (table_of before.rules) limit number line before after result → IsWrittenBehind first o after
 line_stays first o limit number line before after result few written ends =
-    (line_ended first o before.rules limit few number line before after result ends (refl, written)).1
+    to_start first o after (line_ended [] first o before.rules limit few number line before after result ends (refl, from_start first o before written)).1
 
 pub command_stays : (first : List ℕ) (o : Opening) (limit : ℕ) (c : Command) (before after : Progress) (result : Result Unit RecordFault) → limit ≤ max_entries → IsCommand c → IsWrittenBehind first o before → CommandEnds (table_of before.rules) limit c before after result → IsWrittenBehind first o after
 command_stays first o limit c before after result few fits written ends =
-    (command_ended first o before.rules limit few c before after result fits ends (refl, written)).1
+    to_start first o after (command_ended [] first o before.rules limit few c before after result fits ends (refl, from_start first o before written)).1
 
 pub text_taken : (first : List ℕ) (o : Opening) (p : Progress) → IsWrittenBehind first o p → IsWrittenBehind (first ++ p.text) o (without_text p)
 text_taken first o p (log, is) =

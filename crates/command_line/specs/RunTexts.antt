@@ -1,65 +1,15 @@
--- What a script's lines have written so far, as a transcript.
-use Rattle.std.specs.Prelude.{◌≡◌, ℕ, ◌+◌, ◌⊎◌, List, [], ◌++◌, Option, None, Some, Result, Ok, Err}
+-- What the run of a script has written, judged by the auditor.
+use Rattle.std.specs.Prelude.{◌≡◌, ℕ, ◌+◌, List, ◌++◌, Option, Result, Ok, Err}
 use Rattle.std.specs.Io.KnownBytes.{Appends}
-use Rattle.rule_machine.specs.declared.base.Base.{Base}
-use Rattle.rule_machine.specs.declared.rule_set.RuleSet.{RuleSet}
 use Rattle.rule_machine.specs.RuleTable.{RuleTable}
-use Rattle.rule_machine.specs.Base.{LogPart, NumberedMoment, dropped}
-use Rattle.line_text.specs.EntryText.{entry_lines}
-use Rattle.step_log.specs.RetainedLogs.{RetainedLog}
 use Rattle.byte_streams.specs.PartialOutput.{AppendsBeginning}
-use Rattle.script_text.specs.Script.{Progress, LinesDo, MeetsFullLog, lines_of, with_checkpoint}
+use Rattle.script_text.specs.Script.{Progress, LinesDo, lines_of}
 use Rattle.script_run.specs.declared.fault.RunFault.{RunFault}
 use Rattle.script_run.specs.declared.fault.RunFault.TheVariants.{BadLine, LogFull, Read, Write, Memory, Pool}
 use Rattle.script_run.specs.Outcome.{LinesLeadTo, LinesReach, StopsAtBadLine, StopsAtFullLog}
 use Rattle.auditor.specs.declared.summary.Summary.{Summary}
 use Rattle.auditor.specs.declared.transcript_end.TranscriptEnd.{TranscriptEnd}
 use Rattle.auditor.specs.AcceptedRuns.{IsAccepted}
-use Rattle.auditor.specs.Parts.{Based, Named, Opening, base_in, opening_text}
-use Rattle.auditor.specs.Transcript.{IsTranscript}
-
--- the moment that a run has reached, and the number of its entries
-abbrev pub moment_of : Progress → NumberedMoment
-moment_of p = record { moment = p.moment; count = p.count }
-
--- The first text and that of the progress behind it are the transcript of a run with this opening, which has
--- come as far as the progress says.
-abbrev pub IsWrittenBehind : List ℕ → Opening → Progress → Type 0
-IsWrittenBehind first opening p = (log : List LogPart) × IsTranscript (first ++ p.text) p.rules opening log (moment_of p)
-
--- how many entries come before an opening: those that its base has dropped
-abbrev pub entries_before : Opening → ℕ
-entries_before opening = dropped (base_in opening)
-
--- the progress after its text was taken
-abbrev pub without_text : Progress → Progress
-without_text p = record p { text = [] }
-
--- the lines lead to the end; or some lines lead to a line that meets a full log, and the run ends there
-abbrev pub LinesReachEnd : RuleTable → ℕ → List (List ℕ) → Progress → Progress → Type 0
-LinesReachEnd t limit lines start end =
-    LinesDo t limit lines start end
-    ⊎ ((line : List ℕ) × (before : Progress) × LinesDo t limit lines start before × MeetsFullLog t limit line before end)
-
--- the end of a transcript as the start of a run, whose text begins with the base there
-abbrev pub start_behind : TranscriptEnd → Progress
-start_behind end = with_checkpoint (record {
-  rules = end.rules;
-  moment = record { state = end.net.state; spent = end.spent };
-  count = end.number;
-  text = [];
-  counting = None;
-})
-
--- the opening of a log's text: a header, or a base, for this many names
-abbrev pub opening_of : ℕ → ℕ → Option Base → Opening
-opening_of size present None = Named size present
-opening_of size present (Some base) = Based size base
-
--- the text of the log that a journal keeps: its opening, and the entries after it, numbered on
-abbrev pub log_text : RuleSet → RetainedLog → List ℕ
-log_text rules kept =
-    opening_text rules (opening_of kept.state.network.size kept.present kept.base) ++ entry_lines (dropped kept.base + 1) kept.entries
 
 -- the auditor accepts the text of the progress, and counts its entries
 abbrev pub IsAcceptedRun : Progress → Type 0

@@ -1,0 +1,9 @@
+mod Lists
+mod Replies
+mod Draws
+mod Growth
+pub mod AcceptedLines
+pub mod AcceptedLaws
+pub mod KeptLogs
+pub mod NextTranscripts
+pub mod Sessions
