@@ -26,8 +26,9 @@ pub const MAX_WORKERS: usize = 64;
 /// had no note or got a receipt: only then is the note known to be of this network.
 ///
 /// A worker that meets a fault ends; the other workers go on. The result is the first fault in the clerks'
-/// order. Clause `ends` has the turns of each clerk up to its own fault, if it met one. Recorded entries and their receipts stay. Each clerk's note is unchanged or a note of this
-/// network; each clerk's base is unchanged.
+/// order. Clause `ends` has the turns of each clerk up to its own fault, if it met one. Recorded entries and
+/// their receipts stay. Each clerk's note is unchanged or a note of this network; each clerk's base is
+/// unchanged.
 ///
 /// `ZeroWorkers` if there is no clerk. A turn may meet the faults of `Clerk::call`. `Thread` never comes:
 /// without a thread, clerks roam one after another. Then a gate that makes one worker wait for another waits

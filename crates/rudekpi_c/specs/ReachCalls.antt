@@ -1,13 +1,9 @@
 -- The nodes at rest, and the nodes that an edit or a fault would reach, in a session's state, for C.
 use Rattle.std.specs.Prelude.{◌≡◌, ◌⊎◌, ◌≤◌, ◌<◌, ℕ, Bool, false, List, ◌++◌, length, drop, Option, None, Some, IsTrue}
 use Rattle.rule_machine.specs.declared.event.Event.{Event}
-use Rattle.rule_machine.specs.RuleTable.{RuleTable}
-use Rattle.rule_machine.specs.Run.{Entry, Moment, Run}
 use Rattle.rule_machine.specs.Tables.{table_of}
-use Rattle.machine_laws.specs.ChargeWords.{IsUndisturbed}
 use Rattle.containment_laws.specs.Rest.{is_at_rest}
-use Rattle.containment_laws.specs.Movers.{has_moved, KeepsRegisters}
-use Rattle.rule_engine.specs.DisturbanceReach.{reach_of}
+use Rattle.rule_engine.specs.DisturbanceReach.{StaysAtRest, reach_of}
 use Rattle.line_text.specs.Words.{IsName}
 use Rattle.script_text.specs.declared.command.Command.TheVariants.{Tell}
 use Rattle.script_text.specs.Command.{IsCommand}
@@ -18,13 +14,7 @@ use Rattle.rudekpi_c.specs.declared.session.Session.{Session}
 abbrev pub rests_at : Session → ℕ → Bool
 rests_at s v = is_at_rest (table_of (rules_of s)).flags (stands s).moment.state v
 
--- until the next disturbance v never moves, keeps its registers, and stays at rest, whatever the daemon
--- chooses
-abbrev pub StaysAtRest : RuleTable → Moment → ℕ → Type 0
-StaysAtRest t start v =
-    (log : List Entry) (end : Moment) → Run t start log end → IsUndisturbed log
-    → (has_moved log v ≡ false) × KeepsRegisters start.state end.state v × IsTrue (is_at_rest t.flags end.state v)
-
+-- status and answer of a question whether the node is at rest, and what the answer means
 abbrev pub RestsIn : ℕ → ℕ → Bool → Option Session → Type 0
 RestsIn node status rests None = (status ≡ 4) × (rests ≡ false)
 RestsIn node status rests (Some s) =

@@ -9,7 +9,8 @@ ghost use Rattle.rule_machine.specs.declared.event.Event.TheVariants.{Link, Unli
 ghost use Rattle.script_text.specs.declared.command.Command.TheVariants.{Tell};
 ghost use Rattle.script_text.specs.Command.{IsCommand};
 ghost use Rattle.rudekpi_c.specs.CommandCalls.{optional_name};
-ghost use Rattle.rudekpi_c.specs.ReachCalls.{rests_at, StaysAtRest, reach_at, AnswersRest, AnswersReach};
+ghost use Rattle.rule_engine.specs.DisturbanceReach.{StaysAtRest};
+ghost use Rattle.rudekpi_c.specs.ReachCalls.{rests_at, reach_at, AnswersRest, AnswersReach};
 ghost use Rattle.rudekpi_c.specs.Session.{stands, rules_of};
 
 use crate::request;

@@ -1,6 +1,7 @@
 //! How a clerk that may call records an event and keeps the receipt.
 
 ghost use Rattle.std.specs.Prelude.{◌≡◌, ◌<◌, ◌≤◌, ◌++◌, ◌∷◌, [], length, None, Some, IfOk, IfErr, OnOk, vec_capacity};
+ghost use Rattle.round_laws.specs.RoundCounts.{next_counting};
 ghost use Rattle.step_log.specs.RetainedLogs.{last_number};
 ghost use Rattle.locked_net.specs.WholeLogs.{IsWholeLog};
 ghost use Rattle.locked_net.specs.Receipts.{seen_by};
@@ -52,6 +53,7 @@ impl Clerk {
         requires { call_fault (seen_by self.old) desk.old.log ≡ None }
         ensures recorded { IfOk result (RecordsEvent R.table desk.old.log desk.new.log self.old.receipts self.new.receipts event) }
         ensures call { HeldCall each desk.old desk.new self.old self.new result }
+        ensures counting { IfOk result (λ reply. desk.new.counting ≡ next_counting R.table reply desk.new.log.state desk.old.counting) }
         ensures fault { IfErr result (λ fault. fault ≡ Memory) }
     {
         self.receipts.reserve(1)?;

@@ -2,6 +2,7 @@
 
 ghost use Rattle.std.specs.Prelude.{◌≡◌, None, IfOk, IfErr};
 ghost use Rattle.rule_machine.specs.declared.event.Event.TheVariants.{Step};
+ghost use Rattle.round_laws.specs.RoundCounts.{next_counting};
 ghost use Rattle.rule_engine.specs.ChoiceMoves.{verdicts_of};
 ghost use Rattle.locked_net.specs.Receipts.{seen_by};
 ghost use Rattle.locked_net.specs.Calls.{call_fault, RecordsEvent};
@@ -27,6 +28,7 @@ impl Clerk {
         requires verdicts { verdicts.now ≡ verdicts_of R.table desk.old.log.state choice }
         ensures recorded { IfOk result (RecordsEvent R.table desk.old.log desk.new.log self.old.receipts self.new.receipts (Step choice)) }
         ensures call { HeldCall each desk.old desk.new self.old self.new result }
+        ensures counting { IfOk result (λ reply. desk.new.counting ≡ next_counting R.table reply desk.new.log.state desk.old.counting) }
         ensures fault { IfErr result (λ fault. fault ≡ Memory) }
     {
         self.receipts.reserve(1)?;

@@ -1,7 +1,8 @@
 //! Calls of a network whose lock is held, whose event a daemon or an injector chooses.
 
-ghost use Rattle.std.specs.Prelude.{◌≡◌, ◌≢◌, ◌↔◌, IsNone, IfOk, IfErr, MatchOption};
+ghost use Rattle.std.specs.Prelude.{◌≡◌, ◌≢◌, ◌↔◌, IsNone, IfOk, IfErr, IfSome, MatchOption};
 ghost use Rattle.rule_machine.specs.Network.{node_count};
+ghost use Rattle.round_laws.specs.RoundCounts.{next_counting};
 ghost use Rattle.locked_net.specs.Receipts.{seen_by};
 ghost use Rattle.locked_net.specs.Calls.{call_fault, Drives, Breaks};
 ghost use Rattle.locked_net.specs.ClerkCalls.{some_of, Admits, HeldCall};
@@ -28,6 +29,7 @@ impl<R: Rules> HeldNet<'_, R> {
             (λ reply. Drives R.table self.old.log self.new.log clerk.old.receipts clerk.new.receipts reply)) }
         ensures chosen { IfOk result (ChoosesOn R.table self.old.log (ByDaemon D.chooses R.table daemon.old daemon.new) clerk.old.receipts clerk.new.receipts) }
         ensures call { HeldCall some_of self.old self.new clerk.old clerk.new result }
+        ensures counting { IfOk result (λ told. IfSome told (λ reply. self.new.counting ≡ next_counting R.table reply self.new.log.state self.old.counting)) }
         ensures admitted { Admits (call_fault (seen_by clerk.old) self.old.log) result }
         ensures unasked { IfErr result (λ fault. (fault ≢ Memory) → daemon.new ≡ daemon.old) }
     {
@@ -51,6 +53,7 @@ impl<R: Rules> HeldNet<'_, R> {
         ensures drawn { IfOk result (ChoosesOn R.table self.old.log (ByInjector G.stream R.table injector.old injector.new) clerk.old.receipts clerk.new.receipts) }
         ensures none { IfOk result (λ told. IsNone told ↔ (node_count self.old.log.state.network ≡ 0)) }
         ensures call { HeldCall some_of self.old self.new clerk.old clerk.new result }
+        ensures counting { IfOk result (λ told. IfSome told (λ reply. self.new.counting ≡ next_counting R.table reply self.new.log.state self.old.counting)) }
         ensures admitted { Admits (call_fault (seen_by clerk.old) self.old.log) result }
         ensures unasked { IfErr result (λ fault. (fault ≢ Memory) → injector.new ≡ injector.old) }
     {

@@ -1,6 +1,7 @@
 //! A step that workers judge, of a network whose lock is held.
 
-ghost use Rattle.std.specs.Prelude.{IfOk};
+ghost use Rattle.std.specs.Prelude.{◌≡◌, IfOk};
+ghost use Rattle.round_laws.specs.RoundCounts.{next_counting};
 ghost use Rattle.rule_machine.specs.declared.event.Event.TheVariants.{Step};
 ghost use Rattle.locked_net.specs.Receipts.{seen_by};
 ghost use Rattle.locked_net.specs.Calls.{call_fault, RecordsEvent};
@@ -24,6 +25,7 @@ impl<R: Rules + Sync> HeldNet<'_, R> {
     ) -> Result<Reply, StepFault>
         ensures recorded { IfOk result (RecordsEvent R.table self.old.log self.new.log clerk.old.receipts clerk.new.receipts (Step choice)) }
         ensures call { HeldCall each self.old self.new clerk.old clerk.new result }
+        ensures counting { IfOk result (λ reply. self.new.counting ≡ next_counting R.table reply self.new.log.state self.old.counting) }
         ensures admitted { AdmitsStep (call_fault (seen_by clerk.old) self.old.log) workers result }
     {
         clerk.may_call(&self.desk)?;

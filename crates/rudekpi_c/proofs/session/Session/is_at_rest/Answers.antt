@@ -5,7 +5,7 @@ use Rattle.rule_machine.specs.Tables.{table_of}
 use Rattle.containment_laws.proofs.Proved as proved
 use Rattle.rudekpi_c.specs.declared.session.Machine.{Machine}
 use Rattle.rudekpi_c.specs.declared.session.Machine.TheVariants.{Hh, Manne}
-use Rattle.rudekpi_c.specs.ReachCalls.{StaysAtRest}
+use Rattle.rule_engine.specs.DisturbanceReach.{StaysAtRest}
 use Rattle.rudekpi_c.specs.Session.{stands_at, rules_at}
 use Rattle.rudekpi_c.proofs.session.Session.is_at_rest.Goals as goal
 
