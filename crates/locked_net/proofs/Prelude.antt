@@ -65,7 +65,7 @@ pub use Rattle.locked_net.specs.PublishedJournals.{PublishedJournalView, KeepsKe
 pub use Rattle.locked_net.specs.ReaderAnswers.{Shows}
 pub use Rattle.locked_net.specs.Receipts.{ClerkView, noted, IsClerk, IsReceiptOf, NotesLast, StandsLastFrom, StandsLast, front_of, seen_by, front_from, RiseAbove, HasNoteOf, IsOfBook, seen_from, base_from, base_number}
 pub use Rattle.locked_net.specs.RetainedParts.{IsPartNoted, log_over, IsLogAboveBase, TellsEnd}
-pub use Rattle.locked_net.specs.RoamResults.{AllEnd, AllKeepNotes, IsLoneStep, Roams, AllRoam, RoamResult, MayMeetRoamFault, TakesTurns, AllTakeTurns, BreaksOff, MayEnd, HasOwnNote, EndsOnLog, roam_fault, KeepsNote, TakesTurn, MeetsFault}
+pub use Rattle.locked_net.specs.RoamResults.{AllEnd, AllKeepNotes, IsLoneStep, Roams, AllRoam, RoamResult, MayMeetRoamFault, TakesTurns, AllTakeTurns, BreaksOff, MayEnd, HasOwnNote, EndsOnLog, roam_call_fault, roam_fault, KeepsNote, TakesTurn, MeetsFault}
 pub use Rattle.locked_net.specs.RoamTurns.{mover, lone_items, lone_step, receipts_by, receipts_of_turn, FaultBy, fault_by, fault_of_turn, FaultInTurn}
 pub use Rattle.locked_net.specs.Settings.{Setting, IsLogIn}
 pub use Rattle.locked_net.specs.WholeLogs.{IsWholeLog}

@@ -1,3 +1,4 @@
+use Rattle.locked_net.proofs.Prelude.{◌∙◌}
 use Rattle.locked_net.specs.Nets.{book_of, setting_of}
 use Rattle.locked_net.proofs.Ends.{parts_kept, notes_stay}
 use Rattle.locked_net.proofs.RoamReceipts.{first_ended, first_roamed, first_taken, may_stop, told_back}
