@@ -93,8 +93,8 @@ size_t rudekpi_session_length(struct rudekpi_slot *slot);
  * changes nothing. Returns the length of the text, which was copied if its length is at most `room`.
  * All that was read of a session that kept its text from the start, in order, with what is unread, is a
  * transcript at any time: an audit accepts it. After rudekpi_session_resume so is the resumed transcript with
- * all of this appended. Both are proved call by call (`sessions_stay_transcripts` in crates/command_line) until
- * rudekpi_session_renumber, and tested of what comes after it. */
+ * all of this appended. After rudekpi_session_renumber this holds of the text after the first `ended` bytes. It
+ * is proved call by call (`session_texts_are_accepted` in crates/rudekpi_c). */
 size_t rudekpi_session_read(struct rudekpi_slot *slot, uint8_t *out, size_t room);
 
 /* Ends the session and frees its memory. The slot may be empty before, and is empty afterwards. */
@@ -218,8 +218,7 @@ uint32_t rudekpi_transcript(struct rudekpi_slot *slot, bool keeps);
  * rudekpi_checkpoint writes it, and ends the transcript so far. The second is the base of the same state with
  * the number 0, and begins the next transcript. The network and its moves spent stay as they are, and the next
  * entry is 1. `ended` becomes how many bytes of the unread text end the first transcript: the bytes after them
- * begin the next one. An audit accepts both; of the next one this is tested, not proved. Without a kept
- * transcript there is no text, and `ended` is 0.
+ * begin the next one. An audit accepts both. Without a kept transcript there is no text, and `ended` is 0.
  * DONE; NO_MEMORY: nothing changed; NO_SESSION. `ended` is 0 if the status is not DONE. Two looks at all names
  * and edges. */
 uint32_t rudekpi_session_renumber(struct rudekpi_slot *slot, size_t *ended);
