@@ -323,7 +323,7 @@ def rows_of(given: argparse.Namespace, rows: list[Row], is_written: bool) -> int
                 written: Iterable[Row] = sweeps.write_csv(found, file, bool(target.columns)) if file else found
                 rows.extend(shown(written, left))
         except KeyboardInterrupt:
-            print(f"! cut short: {len(rows)} of {counted(len(todo), 'row')} are there", file=sys.stderr)
+            print(f"! cut short: {target.count(rows)} of {counted(len(todo), 'row')} are there", file=sys.stderr)
             return INTERRUPTED
     target.sort(rows, (it.key for it in todo), found.columns)
     return DONE

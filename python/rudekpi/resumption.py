@@ -106,6 +106,16 @@ class RowTarget:
         with streams.output_file(self.path, bool(self.columns)) as file:
             yield file
 
+    def count(self, rows: Sequence[Row]) -> int:
+        """How many rows are there: those of the file, if it is one, or these.
+
+        An interrupt may come after a row was written and before it was kept.
+        """
+        if self.path is None or not self.is_file() or not self.is_there():
+            return len(rows)
+        with open(self.path, "rb") as file:
+            return sum(1 for _ in RowFile(lines_of_file(file), self.path))
+
     def sort(self, rows: Sequence[Row], keys: Iterable[tuple[object, ...]], columns: Sequence[str]) -> None:
         """Writes the file anew, whole or not at all, with its rows in the order of these keys, others first."""
         if self.path is None or not self.is_file():
