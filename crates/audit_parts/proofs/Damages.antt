@@ -1,6 +1,6 @@
 -- The damage of a text is that of a longer one that meets another text; after a transcript it moves on by its
 -- lines.
-use Rattle.audit_parts.proofs.Prelude.{◌≡◌, ◌≢◌, ℕ, ◌+◌, ◌<◌, ◌≤◌, ◌⊎◌, inl, inr, List, [], ◌∷◌, ◌++◌, Option, None, Some, length, refl, sym, ap, subst, ◌∙◌, append_assoc, append-nil, length-append, ⊎_elim, arith, AllByRecursion, cases_lt, Base, RuleSet, LogPart, NumberedMoment, base_of, Entry, Answers, table_of, lines_with_ends, base_counts, base_head, first_line, first_line-splits, no_first_line, BaseLine, Head, LacksLines, MayFollow, base_lines, IsBaseLine, base_line_text, cons_parts, mark_once, line_free, AuditFault, BadHeader, NotALine, OutOfOrder, NotTheMachines, BadBase, Read, Memory, Summary, IsAccepted, TranscriptPrefix, HasImpossibleBase, HasBrokenBase, EntryComes, BeginsWithTranscript, HasBadHeader, HasBadStart, HasNoEntry, IsDamage, IsLineBehind, CommonPrefix, line_feeds, Based, Opening, opening_text, parts_text, size_of, IsTranscript, Fails, FailsBehind, FailsFirst, Split, damage_fails, fails_some, first_good, split_of, begins_less, begins_more, breaks_more, feeds_append, feeds_broken, first_line-more, EndsLine, IsSeam, further}
+use Rattle.audit_parts.proofs.Prelude.{◌≡◌, ◌≢◌, ℕ, ◌+◌, ◌<◌, ◌≤◌, ◌⊎◌, inl, inr, List, [], ◌∷◌, ◌++◌, Option, None, Some, length, refl, sym, ap, subst, ◌∙◌, append_assoc, append-nil, length-append, ⊎_elim, arith, AllByRecursion, cases_lt, Base, RuleSet, LogPart, NumberedMoment, base_of, Entry, Answers, table_of, lines_with_ends, base_head, first_line, first_line-splits, no_first_line, BaseLine, Head, LacksLines, MayFollow, numbers_text, base_lines, IsBaseLine, base_line_text, cons_parts, mark_once, line_free, AuditFault, BadHeader, NotALine, OutOfOrder, NotTheMachines, BadBase, Read, Memory, Summary, IsAccepted, TranscriptPrefix, HasImpossibleBase, HasBrokenBase, EntryComes, BeginsWithTranscript, HasBadHeader, HasBadStart, HasNoEntry, IsDamage, IsLineBehind, CommonPrefix, line_feeds, Based, Opening, opening_text, parts_text, size_of, IsTranscript, Fails, FailsBehind, FailsFirst, Split, damage_fails, fails_some, first_good, split_of, begins_less, begins_more, breaks_more, feeds_append, feeds_broken, first_line-more, EndsLine, IsSeam, further}
 use Rattle.entry_grammar.specs.declared.base_line.BaseLine.TheVariants.{Base as Numbers}
 use Rattle.audit_parts.proofs.CutTranscripts.{cut_reopens, cut_transcript, reopens_end, text_at}
 use Rattle.audit_parts.proofs.Lines.{ends_behind, ends_both, ends_free, follow_inner, skip_base, skip_line, skip_lines}
@@ -90,12 +90,12 @@ module _ (own seam : List ℕ) (lines : EndsLine own) (seamed : IsSeam seam) whe
           let cut = mark_once 10 (base_head rules size) seamed.head [] (seamed.numbers ++ 10 ∷ seamed.rest) (line_free (Head rules size) few) seamed.first (e ∙ seamed.is) in
           let l = ap length cut.1 ∙ length-append seamed.numbers (10 ∷ seamed.rest) in
           omega (arith, l)
-      alone (Numbers number spent nodes edges ∷ found) fit follow short e =
-          let text = base_counts number spent nodes edges in
+      alone (Numbers q ∷ found) fit follow short e =
+          let text = numbers_text q in
           let more = lines_with_ends base_line_text found in
           let cut = mark_once 10 (base_head rules size) seamed.head ((text ++ 10 ∷ []) ++ more) (seamed.numbers ++ 10 ∷ seamed.rest) (line_free (Head rules size) few) seamed.first (e ∙ seamed.is) in
-          let second = mark_once 10 text seamed.numbers more seamed.rest (line_free (Numbers number spent nodes edges) fit.0) seamed.second (sym (append_assoc text (10 ∷ []) more) ∙ cut.1) in
-          let told = seamed.told number spent nodes edges fit.0 (sym second.0) in
+          let second = mark_once 10 text seamed.numbers more seamed.rest (line_free (Numbers q) fit.0) seamed.second (sym (append_assoc text (10 ∷ []) more) ∙ cut.1) in
+          let told = seamed.told q fit.0 (sym second.0) in
           let same = ap line_feeds second.1 in
           let all = (ended_lines base_line_text IsBaseLine line_free found fit.1).0 in
           omega (arith, told, same, all, short)

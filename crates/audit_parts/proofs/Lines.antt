@@ -82,7 +82,7 @@ IsInner line = Unit {0}
 
 inner_other : (line : BaseLine) (more z : List ℕ) → IsInner line → base_line_text line ++ 10 ∷ more ≡ 109 ∷ z → ⊥
 inner_other (Head rules size) more z inner e = inner
-inner_other (Base number spent nodes edges) more z inner e =
+inner_other (Base q) more z inner e =
     let byte : 98 ≡ 109 = ap (λ (l : List ℕ). get_or l 0 0) e in omega (arith, byte)
 inner_other (Place node target flagged) more z inner e =
     let byte : 110 ≡ 109 = ap (λ (l : List ℕ). get_or l 0 0) e in omega (arith, byte)
@@ -102,7 +102,7 @@ nodes_inner (suc left) edges last (line ∷ lines) h = absurd h
 
 pub follow_inner : (lines : List BaseLine) → MayFollow lines → AllByRecursion IsInner lines
 follow_inner [] h = tt
-follow_inner (Base number spent nodes edges ∷ lines) h = (tt, nodes_inner nodes edges 0 lines h)
+follow_inner (Base q ∷ lines) h = (tt, nodes_inner q.nodes q.edges 0 lines h)
 follow_inner (line ∷ lines) h = absurd h
 
 one_line : (line : BaseLine) (lines : List BaseLine) (x : List ℕ) → lines_with_ends base_line_text (line ∷ lines) ++ x ≡ base_line_text line ++ 10 ∷ (lines_with_ends base_line_text lines ++ x)

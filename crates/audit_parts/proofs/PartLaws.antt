@@ -1,5 +1,5 @@
 -- The laws of specs/Laws.
-use Rattle.audit_parts.proofs.Prelude.{◌≡◌, ℕ, List, [], ◌∷◌, ◌++◌, Ok, Err, Option, None, Some, IfSome, length, refl, sym, ap, subst, ◌∙◌, append_assoc, append-nil, arith, lines_with_ends, base_head, base_text, link_text, numbers_line, node_record_text, Head, AreCounts, base_lines, spells_base_line_once, line_free, Read, Memory, IsAccepted, IsDamage, line_feeds, IsJudged, AreLinesBefore, AllPartsAreAccepted, AreParts, BasesAreSeams, FirstDamageStays, HasVerdict, IsAcceptedText, JoinedIsAccepted, PartsAreAccepted, PartsAreJudged, SecondDamageMoves, Meets, Verdict, counted_both, further, joined_verdict}
+use Rattle.audit_parts.proofs.Prelude.{◌≡◌, ℕ, ◌+◌, List, [], ◌∷◌, ◌++◌, Ok, Err, Option, None, Some, IfSome, refl, sym, ap, subst, ◌∙◌, append_assoc, append-nil, arith, lines_with_ends, base_head, base_text, link_text, numbers_line, node_record_text, Head, AreCounts, BaseNumbers, base_numbers, same_numbers, base_lines, spells_base_line_once, line_free, Read, Memory, IsAccepted, IsDamage, line_feeds, IsJudged, AreLinesBefore, AllPartsAreAccepted, AreParts, BasesAreSeams, FirstDamageStays, HasVerdict, IsAcceptedText, JoinedIsAccepted, PartsAreAccepted, PartsAreJudged, SecondDamageMoves, Meets, Verdict, counted_both, further, joined_verdict}
 use Rattle.entry_grammar.specs.declared.base_line.BaseLine.TheVariants.{Base as Numbers}
 use Rattle.audit_parts.proofs.Damages.{first_is_the_wholes, second_is_the_wholes}
 use Rattle.audit_parts.proofs.Lines.{base_behind}
@@ -103,16 +103,11 @@ parts_are_judged first v (next ∷ others) whole all (m, rest, sum, parts, is, a
 
 -- ---- seams
 
-numbers_once : (a b c d k l m n : ℕ) → Numbers a b c d ≡ Numbers k l m n → (c ≡ m) × (d ≡ n)
-numbers_once a b c d k l m n e = let nodes : c ≡ m = cc in let edges : d ≡ n = cc in (nodes, edges)
-
 pub bases_are_seams : BasesAreSeams
 bases_are_seams rules size base few shaped =
     let numbers = numbers_line base in
-    let nodes = length base.nodes in
-    let edges = length base.edges in
     let others = others_told base shaped in
-    let counts : AreCounts (base.number, base.spent, length base.nodes, length base.edges) = (shaped.number, shaped.spent, shaped.nodes, shaped.edges) in
+    let counts : AreCounts (base_numbers base) = (shaped.number, shaped.spent, shaped.nodes, shaped.edges) in
     record {
       head = base_head rules size;
       numbers = numbers;
@@ -120,10 +115,10 @@ bases_are_seams rules size base few shaped =
       is = sym (append-nil (base_text rules size base)) ∙ base_behind rules size base [] ∙ ap (λ (l : List ℕ). base_head rules size ++ 10 ∷ l) (append-nil (base_lines base) ∙ append_assoc numbers (10 ∷ []) (lines_with_ends node_record_text base.nodes ++ lines_with_ends link_text base.edges));
       begins = (_, refl);
       first = line_free (Head rules size) few;
-      second = line_free (Numbers base.number base.spent nodes edges) counts;
+      second = line_free (Numbers (base_numbers base)) counts;
       whole = others.1;
-      told = λ number spent n m fits e.
-          let same = spells_base_line_once numbers (Numbers base.number base.spent nodes edges) (Numbers number spent n m) (record { fits = counts; is = refl }) (record { fits = fits; is = e }) in
-          let parts = numbers_once base.number base.spent nodes edges number spent n m same in
-          omega (arith, others.0, parts.0, parts.1);
+      told = λ q fits e.
+          let line = spells_base_line_once numbers (Numbers (base_numbers base)) (Numbers q) (record { fits = counts; is = refl }) (record { fits = fits; is = e }) in
+          let same = ap (λ (n : BaseNumbers). n.nodes + n.edges) (same_numbers (base_numbers base) q line) in
+          omega (arith, others.0, same);
     }

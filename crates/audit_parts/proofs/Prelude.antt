@@ -33,15 +33,16 @@ pub use Rattle.machine_laws.proofs.ListCounts.{IsIn, count_all, count_into}
 pub use Rattle.machine_laws.proofs.Members.{edges_len, edges_contain, in_edges}
 pub use Rattle.entry_grammar.proofs.BaseBreaks.{fit_both, fit_edges, fit_places}
 pub use Rattle.entry_grammar.proofs.BaseLines.{spells_base_line_once}
-pub use Rattle.entry_grammar.proofs.BaseOnce.{base_text_is, lines_follow, lines_text}
+pub use Rattle.entry_grammar.proofs.BaseOnce.{base_text_is, lines_follow, lines_text, same_numbers}
 pub use Rattle.entry_grammar.proofs.FirstLines.{line_free}
 pub use Rattle.entry_grammar.proofs.Free.{cons_parts, mark_once}
-pub use Rattle.entry_grammar.specs.BaseLines.{LacksLines, MayFollow, base_lines, IsShaped, place_line, lines_of_base, EdgesFollow, NodesFollow, IsPlace, EdgesRise, IsEdgeAbove, NodesRise}
-pub use Rattle.entry_grammar.specs.Parsing.{IsFree, AreCounts}
-pub use Rattle.entry_grammar.specs.Spelling.{SpellsEntry, max_entries, IsBaseLine, base_line_text, IsOrderedPair}
+pub use Rattle.entry_grammar.specs.BaseLines.{LacksLines, MayFollow, base_lines, IsShaped, place_line, base_numbers, lines_of_base, EdgesFollow, NodesFollow, IsPlace, EdgesRise, IsEdgeAbove, NodesRise}
+pub use Rattle.entry_grammar.specs.Parsing.{IsFree}
+pub use Rattle.entry_grammar.specs.Spelling.{AreCounts, numbers_text, SpellsEntry, max_entries, IsBaseLine, base_line_text, IsOrderedPair}
 pub use Rattle.entry_grammar.specs.declared.base_line.BaseLine.{BaseLine}
 pub use Rattle.entry_grammar.specs.declared.base_line.BaseLine.TheVariants.{Head, Place, Link}
-pub use Rattle.line_text.specs.BaseText.{base_text, base_counts, base_head, link_text, numbers_line, node_record_text}
+pub use Rattle.entry_grammar.specs.declared.base_line.BaseNumbers.{BaseNumbers}
+pub use Rattle.line_text.specs.BaseText.{base_text, base_head, link_text, numbers_line, node_record_text}
 pub use Rattle.line_text.specs.EntryText.{entry_text, header_text}
 pub use Rattle.line_text.specs.Words.{lines_with_ends, IsName}
 pub use Rattle.machine_laws.proofs.AcceptedEvents.{cond_none}

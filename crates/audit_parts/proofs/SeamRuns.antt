@@ -1,5 +1,5 @@
 -- A run may begin again at the base of its state; and a base in a text is a seam.
-use Rattle.audit_parts.proofs.Prelude.{◌≡◌, ℕ, ◌+◌, ◌≤◌, List, [], ◌∷◌, ◌++◌, length, refl, sym, ap, subst, ◌∙◌, append_assoc, append-nil, arith, AllByRecursion, append_cancel_left, Base, RuleSet, edge_count, node_count, pair_cmp, LogPart, NumberedMoment, Passes, base_of, entries_in, Moment, table_of, passes_run, edges_len, lines_with_ends, base_head, base_text, link_text, numbers_line, node_record_text, Head, Place, Link, AreCounts, IsFree, IsPlace, IsShaped, base_lines, IsOrderedPair, max_entries, cons_parts, mark_once, line_free, line_feeds, Opening, Named, Based, IsOpening, Opens, size_of, feed, feeds_first, feeds_append, free_feeds, EndsLine, IsSeam, begins_again, light}
+use Rattle.audit_parts.proofs.Prelude.{◌≡◌, ℕ, ◌+◌, ◌≤◌, List, [], ◌∷◌, ◌++◌, length, refl, sym, ap, subst, ◌∙◌, append_assoc, append-nil, arith, AllByRecursion, append_cancel_left, Base, RuleSet, edge_count, node_count, pair_cmp, LogPart, NumberedMoment, Passes, base_of, entries_in, Moment, table_of, passes_run, edges_len, lines_with_ends, base_head, base_text, link_text, numbers_line, node_record_text, Head, Place, Link, AreCounts, base_numbers, IsFree, IsPlace, IsShaped, base_lines, IsOrderedPair, max_entries, cons_parts, mark_once, line_free, line_feeds, Opening, Named, Based, IsOpening, Opens, size_of, feed, feeds_first, feeds_append, free_feeds, EndsLine, IsSeam, begins_again, light}
 use Rattle.std.specs.FinMap as finmap
 use Rattle.entry_grammar.specs.declared.base_line.BaseLine.TheVariants.{Base as Numbers}
 use Rattle.audit_parts.proofs.Lines.{base_behind, ends_both, ends_line, ends_tail}
@@ -94,10 +94,10 @@ seam_is rules size base few shaped seam is m k e =
     ap (λ (l : List ℕ). l ++ k) is.is ∙ append_assoc is.head (10 ∷ (is.numbers ++ 10 ∷ is.rest)) k ∙ ap (λ (l : List ℕ). is.head ++ 10 ∷ l) (append_assoc is.numbers (10 ∷ is.rest) k) in
     let first = mark_once 10 head is.head (base_lines base ++ m) (is.numbers ++ 10 ∷ (is.rest ++ k)) (line_free (Head rules size) few) is.first (sym (base_behind rules size base m) ∙ e ∙ had) in
     let lines : base_lines base ++ m ≡ numbers ++ 10 ∷ (others ++ m) = append_assoc (numbers ++ 10 ∷ []) others m ∙ append_assoc numbers (10 ∷ []) (others ++ m) in
-    let counts : AreCounts (base.number, base.spent, length base.nodes, length base.edges) = (shaped.number, shaped.spent, shaped.nodes, shaped.edges) in
-    let second = mark_once 10 numbers is.numbers (others ++ m) (is.rest ++ k) (line_free (Numbers base.number base.spent (length base.nodes) (length base.edges)) counts) is.second (sym lines ∙ first.1) in
+    let counts : AreCounts (base_numbers base) = (shaped.number, shaped.spent, shaped.nodes, shaped.edges) in
+    let second = mark_once 10 numbers is.numbers (others ++ m) (is.rest ++ k) (line_free (Numbers (base_numbers base)) counts) is.second (sym lines ∙ first.1) in
     let wanted = others_told base shaped in
-    let told = is.told base.number base.spent (length base.nodes) (length base.edges) counts (sym second.0) in
+    let told = is.told (base_numbers base) counts (sym second.0) in
     let rest = lines_once others is.rest m k wanted.1 is.whole second.1 (wanted.0 ∙ sym told) in
     sym (append-nil (base_text rules size base)) ∙ base_behind rules size base []
     ∙ ap (λ (l : List ℕ). head ++ 10 ∷ l) (append-nil (base_lines base) ∙ append_assoc numbers (10 ∷ []) others)

@@ -1,5 +1,5 @@
 -- The lines of an accepted text are short.
-use Rattle.audit_parts.proofs.Prelude.{◌≡◌, ℕ, ◌+◌, ◌≤◌, List, [], ◌∷◌, ◌++◌, length, refl, sym, ap, subst, ◌∙◌, append-nil, arith, AllByRecursion, Base, RuleSet, LogPart, EntryPart, BasePart, NumberedMoment, Passes, base_of, table_of, entry_text, header_text, base_text, base_head, base_lines, base_line_text, base_text_is, lines_text, lines_of_base, lines_with_ends, BaseLine, Head, IsBaseLine, IsShaped, line_free, IsFree, SpellsEntry, max_entries, Opening, Named, Based, IsOpening, Opens, opening_text, part_text, parts_text, size_of, count_after, IsLogPart, IsTranscript, StepsTo, passes_first, passes_rise, step_count, entry_free, header_free, AcceptedIsShort, HasShortLines, IsShortLine}
+use Rattle.audit_parts.proofs.Prelude.{ℕ, ◌+◌, ◌≤◌, List, [], ◌∷◌, ◌++◌, length, refl, sym, ap, subst, ◌∙◌, append-nil, arith, AllByRecursion, Base, RuleSet, LogPart, EntryPart, BasePart, NumberedMoment, Passes, base_of, table_of, entry_text, header_text, base_text, base_head, base_lines, base_line_text, base_text_is, lines_text, lines_of_base, lines_with_ends, BaseLine, Head, IsBaseLine, IsShaped, line_free, IsFree, SpellsEntry, max_entries, Opening, Named, Based, IsOpening, opening_text, part_text, parts_text, size_of, count_after, IsLogPart, StepsTo, passes_first, passes_rise, step_count, entry_free, header_free, AcceptedIsShort, HasShortLines, IsShortLine}
 use Rattle.std.proofs.lemmas.List.Concat.{flat_map-append}
 use Rattle.entry_grammar.proofs.EntryLengths.{entry_short}
 use Rattle.auditor.proofs.LongLines.{base_line_short, header_short}
@@ -47,7 +47,7 @@ base_short rules size base few shaped =
 opening_short : (rules : RuleSet) (o : Opening) → IsOpening o → HasShortLines (opening_text rules o)
 opening_short rules (Named size count) is =
     let line = header_text rules size count in
-    one_short line (header_free rules size count is.few is.within) (let short = header_short line rules size count (record { few = is.few; within = is.within; is = refl }) in omega (arith, short))
+    one_short line (header_free rules size count is.few is.within) (let short = header_short line (record { rules = rules; names = size; present = count }) (record { few = is.few; within = is.within; is = refl }) in omega (arith, short))
 opening_short rules (Based size base) is = base_short rules size base is.few is.shaped
 
 -- one part of a run

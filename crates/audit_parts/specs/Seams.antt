@@ -1,8 +1,8 @@
 -- Texts that meet at a base: the base's lines end the first text and begin the second.
 use Rattle.std.specs.Prelude.{◌≡◌, ℕ, ◌+◌, ◌-◌, List, [], ◌∷◌, ◌++◌, Result, Ok, Err}
 use Rattle.byte_streams.specs.Lines.{IsLine}
-use Rattle.line_text.specs.BaseText.{base_counts}
-use Rattle.entry_grammar.specs.Parsing.{AreCounts}
+use Rattle.entry_grammar.specs.declared.base_line.BaseNumbers.{BaseNumbers}
+use Rattle.entry_grammar.specs.Spelling.{AreCounts, numbers_text}
 use Rattle.auditor.specs.declared.fault.AuditFault.{AuditFault}
 use Rattle.auditor.specs.declared.fault.AuditFault.TheVariants.{BadHeader, NotALine, OutOfOrder, NotTheMachines, BadBase, Read, Memory}
 use Rattle.auditor.specs.declared.summary.Summary.{Summary}
@@ -26,7 +26,7 @@ pub record IsSeam (text : List ℕ) : Type 0 where
   pub first : IsLine head
   pub second : IsLine numbers
   pub whole : EndsLine rest
-  pub told : (number spent nodes edges : ℕ) → AreCounts (number, spent, nodes, edges) → numbers ≡ base_counts number spent nodes edges → line_feeds rest ≡ nodes + edges
+  pub told : (q : BaseNumbers) → AreCounts q → numbers ≡ numbers_text q → line_feeds rest ≡ q.nodes + q.edges
 
 -- The first text ends with a seam, and the second begins with the same seam. The joined text has the seam
 -- once: the first text's lines before the seam, then the second text.

@@ -1,5 +1,5 @@
 -- How far an audit is, part by part.
-use Rattle.auditor.proofs.Prelude.{◌≡◌, ℕ, ◌+◌, ◌≤◌, inr, List, [], ◌∷◌, ◌++◌, Option, Some, Err, take, sum_by, refl, sym, ap, subst, ◌∙◌, append_assoc, append-nil, arith, length-append, sum_by-append, Base, RuleSet, State, LogPart, EntryPart, BasePart, NumberedMoment, base_of, entries_in, Entry, table_of, base_head, base_text, header_text, header_line, entry_text, first_line, SpellsHeader, base_lines, base_text_is, first_line-splits, BadHeader, NotALine, OutOfOrder, NotTheMachines, BadBase, Read, Memory, AuditFault, Summary, Opening, Opens, opening_text, size_of, IsTranscript, NextPart, disturbances_in, reply_moves, BeginsWithTranscript, TranscriptPrefix, BeginsBase, IsLineBehind, HasNoEntry, Position, stand_of, position_at, counted_more, counted_part, GoodLine, BadNumber, BadReply, LineJudged, IsFurther, Counts, IsPositionAfter, IsMetBehind}
+use Rattle.auditor.proofs.Prelude.{◌≡◌, ℕ, ◌+◌, ◌≤◌, inr, List, [], ◌∷◌, ◌++◌, Option, Some, Err, take, sum_by, refl, sym, ap, subst, ◌∙◌, append_assoc, append-nil, arith, length-append, sum_by-append, Base, RuleSet, State, LogPart, EntryPart, BasePart, NumberedMoment, base_of, entries_in, Entry, table_of, base_head, base_text, header_text, header_line, entry_text, first_line, Header, SpellsHeader, base_lines, base_text_is, first_line-splits, BadHeader, NotALine, OutOfOrder, NotTheMachines, BadBase, Read, Memory, AuditFault, Summary, Opening, Opens, opening_text, size_of, IsTranscript, NextPart, disturbances_in, reply_moves, BeginsWithTranscript, TranscriptPrefix, BeginsBase, IsLineBehind, HasNoEntry, Position, stand_of, position_at, counted_more, counted_part, GoodLine, BadNumber, BadReply, LineJudged, IsFurther, Counts, IsPositionAfter, IsMetBehind}
 use Rattle.auditor.proofs.LineCounts.{PartAt}
 use Rattle.auditor.proofs.Steps.{follows_more}
 
@@ -52,9 +52,9 @@ opened_follows bytes rest rules opening start opens few splits = record {
   splits = splits;
 }
 
-pub header_splits : (bytes line rest : List ℕ) (rules : RuleSet) (size count : ℕ) → first_line bytes ≡ Some (line, rest) → SpellsHeader line rules size count → bytes ≡ header_line rules size count ++ rest
-header_splits bytes line rest rules size count cut spells =
-    first_line-splits bytes line rest cut ∙ ap (λ (z : List ℕ). z ++ 10 ∷ rest) spells.is ∙ sym (append_assoc (header_text rules size count) (10 ∷ []) rest)
+pub header_splits : (bytes line rest : List ℕ) (header : Header) → first_line bytes ≡ Some (line, rest) → SpellsHeader line header → bytes ≡ header_line header.rules header.names header.present ++ rest
+header_splits bytes line rest header cut spells =
+    first_line-splits bytes line rest cut ∙ ap (λ (z : List ℕ). z ++ 10 ∷ rest) spells.is ∙ sym (append_assoc (header_text header.rules header.names header.present) (10 ∷ []) rest)
 
 pub base_splits : (bytes rest behind : List ℕ) (rules : RuleSet) (size : ℕ) (base : Base) → first_line bytes ≡ Some (base_head rules size, rest) → rest ≡ base_lines base ++ behind → bytes ≡ base_text rules size base ++ behind
 base_splits bytes rest behind rules size base cut is =

@@ -1,5 +1,5 @@
 -- A text without a damage cannot fail to be a transcript.
-use Rattle.auditor.proofs.Prelude.{◌≡◌, ◌≢◌, ℕ, zero, suc, ◌+◌, ◌≤◌, ◌==◌, Bool, true, false, ◌⊎◌, inl, inr, List, [], ◌∷◌, ◌++◌, Option, None, Some, length, refl, sym, ap, subst, ◌∙◌, arith, eqb-true, nil_from_length, RuleSet, State, LogPart, EntryPart, BasePart, NumberedMoment, base_of, entries_in, Entry, beginning_with, Answers, spent_after, table_of, base_head, base_text, first_line, SpellsEntry, SpellsHeader, first_line-splits, cons_parts, AuditFault, BadHeader, NotALine, OutOfOrder, NotTheMachines, BadBase, Summary, Named, Based, Opens, size_of, NextPart, epoch_count, move_count, TranscriptPrefix, BeginsBase, HasBadHeader, HasNoEntry, IsDamage, CommonPrefix, SpellsNoHead, SpellsNoHeader, line_feeds, IsAccepted}
+use Rattle.auditor.proofs.Prelude.{◌≡◌, ◌≢◌, ℕ, zero, suc, ◌+◌, ◌≤◌, ◌==◌, Bool, true, false, ◌⊎◌, inl, inr, List, [], ◌∷◌, ◌++◌, Option, None, Some, length, refl, sym, ap, subst, ◌∙◌, arith, eqb-true, nil_from_length, RuleSet, State, LogPart, EntryPart, BasePart, NumberedMoment, base_of, entries_in, Entry, beginning_with, Answers, spent_after, table_of, base_head, base_text, first_line, SpellsEntry, Header, SpellsHeader, first_line-splits, cons_parts, AuditFault, BadHeader, NotALine, OutOfOrder, NotTheMachines, BadBase, Summary, Named, Based, Opens, size_of, NextPart, epoch_count, move_count, TranscriptPrefix, BeginsBase, HasBadHeader, HasNoEntry, IsDamage, CommonPrefix, SpellsNoHead, SpellsNoHeader, line_feeds, IsAccepted}
 use Rattle.auditor.proofs.Steps.{follows_more}
 use Rattle.auditor.proofs.Chains.{comes_shorter, entry_line_is}
 use Rattle.auditor.proofs.Bases.{base_or_breaks}
@@ -168,12 +168,12 @@ walk (suc fuel) bytes at few neither =
 -- ---- how it begins
 
 -- a header does not begin it
-no_header : (bytes line rest : List ℕ) (rules : RuleSet) (size count : ℕ) → Neither bytes → first_line bytes ≡ Some (line, rest) → SpellsHeader line rules size count → ⊥
-no_header bytes line rest rules size count neither cut spells =
-    let start : NumberedMoment = record { moment = beginning_with size count; count = 0 } in
-    let opens : Opens rules (Named size count) start = record { fits = record { few = spells.few; within = spells.within }; begins = refl; count = refl } in
-    let follows = opened_follows bytes rest rules (Named size count) start opens (omega arith) (header_splits bytes line rest rules size count cut spells) in
-    walk (length rest) bytes (record { rules = rules; log = []; end = start; rest = rest; follows = follows }) (omega arith) neither
+no_header : (bytes line rest : List ℕ) (header : Header) → Neither bytes → first_line bytes ≡ Some (line, rest) → SpellsHeader line header → ⊥
+no_header bytes line rest header neither cut spells =
+    let start : NumberedMoment = record { moment = beginning_with header.names header.present; count = 0 } in
+    let opens : Opens header.rules (Named header.names header.present) start = record { fits = record { few = spells.few; within = spells.within }; begins = refl; count = refl } in
+    let follows = opened_follows bytes rest header.rules (Named header.names header.present) start opens (omega arith) (header_splits bytes line rest header cut spells) in
+    walk (length rest) bytes (record { rules = header.rules; log = []; end = start; rest = rest; follows = follows }) (omega arith) neither
 
 -- nor does a base
 no_head : (bytes line rest : List ℕ) (rules : RuleSet) (size : ℕ) → Neither bytes → first_line bytes ≡ Some (line, rest) → size ≤ 65535 → line ≡ base_head rules size → ⊥
@@ -189,7 +189,7 @@ no_head bytes line rest rules size neither cut few head =
 begins : (bytes : List ℕ) → Neither bytes → (found : Option (List ℕ × List ℕ)) → first_line bytes ≡ found → ⊥
 begins bytes neither None cut = neither.undamaged BadHeader (subst HasBadHeader (sym cut) tt)
 begins bytes neither (Some (line, rest)) cut =
-    let bad : SpellsNoHeader line = λ rules size count spells. no_header bytes line rest rules size count neither cut spells in
+    let bad : SpellsNoHeader line = λ header spells. no_header bytes line rest header neither cut spells in
     let none : SpellsNoHead line = λ rules size few head. no_head bytes line rest rules size neither cut few head in
     neither.undamaged BadHeader (subst HasBadHeader (sym cut) (bad, none))
 

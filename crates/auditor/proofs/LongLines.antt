@@ -1,5 +1,5 @@
 -- Lines that are longer than any line of a transcript: what they break, whatever follows them.
-use Rattle.auditor.proofs.Prelude.{◌≡◌, ℕ, ◌+◌, ◌*◌, ◌<◌, ◌≤◌, Bool, true, false, cond, List, [], ◌∷◌, ◌++◌, Option, None, Some, length, take, drop, refl, sym, ap, ◌∙◌, append_assoc, arith, codes, nat_lt, AllByRecursion, length-append, take-append-drop, take-append-le, take_all, RuleSet, Hh, Manne, rules_word, number_text, base_head, header_text, sizes_text, lines_with_ends, BaseLine, Head, IsBaseLine, base_line_text, BreaksAt, MayFollow, SpellsHeader, entry_short, first_line, first_line-is, no_first_line, IsFree, TranscriptCursor, IsMetAt, IsMetFirst, BeginsBase, HasBadHeader, HasNoEntry, line_feeds, BadHeader, BadBase, NotALine}
+use Rattle.auditor.proofs.Prelude.{◌≡◌, ℕ, ◌+◌, ◌*◌, ◌<◌, ◌≤◌, Bool, true, false, cond, List, [], ◌∷◌, ◌++◌, Option, None, Some, length, take, drop, refl, sym, ap, ◌∙◌, append_assoc, arith, codes, nat_lt, AllByRecursion, length-append, take-append-drop, take-append-le, take_all, RuleSet, Hh, Manne, rules_word, number_text, base_head, header_text, sizes_text, lines_with_ends, BaseLine, Head, IsBaseLine, base_line_text, BreaksAt, MayFollow, AreCounts, BaseNumbers, Header, SpellsHeader, entry_short, first_line, first_line-is, no_first_line, IsFree, TranscriptCursor, IsMetAt, IsMetFirst, BeginsBase, HasBadHeader, HasNoEntry, line_feeds, BadHeader, BadBase, NotALine}
 use Rattle.std.proofs.lemmas.Fmt.{length-decimal-le}
 use Rattle.entry_grammar.specs.declared.base_line.BaseLine.TheVariants.{Base, Place, Link}
 use Rattle.line_text.proofs.EventLengths.{name_short, target_short, bool_short, pair_short}
@@ -28,18 +28,20 @@ sizes_short size count few within = by (nat_lt count size)
         omega (arith, size_short size few, size_short count (omega (arith, few, within)), length-append (number_text size) (codes " "), length-append (number_text size ++ codes " ") (number_text count))
     by false = omega (arith, size_short size few)
 
-pub header_short : (line : List ℕ) (rules : RuleSet) (size count : ℕ) → SpellsHeader line rules size count → length line ≤ 32
-header_short line rules size count spells =
-    let is : length line ≡ length (header_text rules size count) = ap length spells.is in
+pub header_short : (line : List ℕ) (header : Header) → SpellsHeader line header → length line ≤ 32
+header_short line header spells =
+    let words = rules_word header.rules in
+    let sizes = sizes_text header.names header.present in
+    let is : length line ≡ length (header_text header.rules header.names header.present) = ap length spells.is in
     let word = codes "matching " in
     omega (
       arith,
       is,
-      rules_short rules,
-      sizes_short size count spells.few spells.within,
-      length-append word (rules_word rules),
-      length-append (word ++ rules_word rules) (codes " "),
-      length-append (word ++ rules_word rules ++ codes " ") (sizes_text size count),
+      rules_short header.rules,
+      sizes_short header.names header.present spells.few spells.within,
+      length-append word words,
+      length-append (word ++ words) (codes " "),
+      length-append (word ++ words ++ codes " ") sizes,
     )
 
 field_short : (name : List ℕ) (n : ℕ) → length name ≤ 6 → IsCountValue n → length (field_text (name, n)) ≤ 16
@@ -50,18 +52,18 @@ field_short name n short h =
 apart_short : (x y : List ℕ) → length (x ++ codes " " ++ y) ≤ length x + length y + 1
 apart_short x y = omega (arith, length-append x (codes " "), length-append (x ++ codes " ") y)
 
-fields_short : (number spent nodes edges : ℕ) → IsCountValue number → IsCountValue spent → IsCountValue nodes → IsCountValue edges → length (joined_texts field_text (base_fields number spent nodes edges)) ≤ 100
-fields_short number spent nodes edges a b c d =
-    let one : List ℕ = field_text (codes "", number) in
-    let two : List ℕ = field_text (codes "spent=", spent) in
-    let three : List ℕ = field_text (codes "nodes=", nodes) in
-    let four : List ℕ = field_text (codes "edges=", edges) in
+fields_short : (q : BaseNumbers) → AreCounts q → length (joined_texts field_text (base_fields q.number q.spent q.nodes q.edges)) ≤ 100
+fields_short q f =
+    let one : List ℕ = field_text (codes "", q.number) in
+    let two : List ℕ = field_text (codes "spent=", q.spent) in
+    let three : List ℕ = field_text (codes "nodes=", q.nodes) in
+    let four : List ℕ = field_text (codes "edges=", q.edges) in
     omega (
       arith,
-      field_short (codes "") number (omega arith) a,
-      field_short (codes "spent=") spent (omega arith) b,
-      field_short (codes "nodes=") nodes (omega arith) c,
-      field_short (codes "edges=") edges (omega arith) d,
+      field_short (codes "") q.number (omega arith) f.0,
+      field_short (codes "spent=") q.spent (omega arith) f.1,
+      field_short (codes "nodes=") q.nodes (omega arith) f.2,
+      field_short (codes "edges=") q.edges (omega arith) f.3,
       length-append (codes " ") four,
       length-append (codes " ") three,
       length-append (codes " ") two,
@@ -75,8 +77,8 @@ pub base_line_short : (line : BaseLine) → IsBaseLine line → length (base_lin
 base_line_short (Head rules size) f =
     let word = codes "matching2 " in
     omega (arith, rules_short rules, size_short size f, length-append word (rules_word rules), apart_short (word ++ rules_word rules) (number_text size))
-base_line_short (Base number spent nodes edges) f =
-    omega (arith, fields_short number spent nodes edges f.0 f.1 f.2 f.3, length-append (codes "base ") (joined_texts field_text (base_fields number spent nodes edges)))
+base_line_short (Base q) f =
+    omega (arith, fields_short q f, length-append (codes "base ") (joined_texts field_text (base_fields q.number q.spent q.nodes q.edges)))
 base_line_short (Place node target flagged) f =
     let front : List ℕ = codes "node " ++ number_text node in
     omega (
@@ -118,7 +120,7 @@ long_first : (text more : List ℕ) (found : Option (List ℕ × List ℕ)) → 
 long_first text more None none long is = tt
 long_first text more (Some (line, behind)) none long is =
     let kept = line_kept text more line behind none is in (
-      λ rules size count spells. let short = header_short line rules size count spells in absurd (omega (arith, kept, long, short)),
+      λ header spells. let short = header_short line header spells in absurd (omega (arith, kept, long, short)),
       λ rules size few same. head_long rules size few (omega (arith, kept, long)) same,
     )
   where

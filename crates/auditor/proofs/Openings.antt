@@ -1,5 +1,5 @@
 -- The opening of a transcript, and the beginning of its run, are determined by the text.
-use Rattle.auditor.proofs.Prelude.{◌≡◌, ℕ, ◌+◌, ◌≤◌, ◌⊎◌, inl, inr, List, [], ◌∷◌, ◌++◌, Some, get_or, refl, sym, ap, ap₂, subst, ◌∙◌, append_assoc, arith, same_Some, Base, RuleSet, Moment, LogPart, NumberedMoment, table_of, weight_of, begins_once, charge_bound, header_text, base_head, Head, first_line, base_lines, first_line-ended, spells_header_once, spells_base_line_once, line_free, base_text_is, base_once, base_unbroken, breaks_once, Opening, Named, Based, IsOpening, Opens, size_of, present_of, base_in, opening_text, parts_text, BeginsWithTranscript, HasBadHeader, HasBadStart, HasBrokenBase, HasImpossibleBase}
+use Rattle.auditor.proofs.Prelude.{◌≡◌, ℕ, ◌+◌, ◌≤◌, ◌⊎◌, inl, inr, List, [], ◌∷◌, ◌++◌, Some, get_or, refl, sym, ap, ap₂, subst, ◌∙◌, append_assoc, arith, same_Some, Base, Header, RuleSet, Moment, LogPart, NumberedMoment, table_of, weight_of, begins_once, charge_bound, header_text, base_head, Head, first_line, base_lines, first_line-ended, spells_header_once, spells_base_line_once, line_free, base_text_is, base_once, base_unbroken, breaks_once, Opening, Named, Based, IsOpening, Opens, size_of, present_of, base_in, opening_text, parts_text, BeginsWithTranscript, HasBadHeader, HasBadStart, HasBrokenBase, HasImpossibleBase}
 use Rattle.auditor.proofs.Feedless.{header_free}
 
 -- ---- the first line
@@ -46,8 +46,10 @@ pub record SameText (r q : RuleSet) (o u : Opening) (x y : List ℕ) : Type 0 wh
 
 text_once : (r q : RuleSet) (o u : Opening) (x y : List ℕ) → IsOpening o → IsOpening u → line_in r o ≡ line_in q u → behind_in o x ≡ behind_in u y → SameText r q o u x y
 text_once r q (Named m c) (Named n d) x y f g line behind =
-    let once = spells_header_once (header_text r m c) r q m n c d (record { few = f.few; within = f.within; is = refl }) (record { few = g.few; within = g.within; is = line }) in
-    record { rules = once.0; openings = ap₂ (λ (a b : ℕ). Named a b) once.1 once.2; rests = behind }
+    let a : Header = record { rules = r; names = m; present = c } in
+    let b : Header = record { rules = q; names = n; present = d } in
+    let once = spells_header_once (header_text r m c) a b (record { few = f.few; within = f.within; is = refl }) (record { few = g.few; within = g.within; is = line }) in
+    record { rules = ap (λ (h : Header). h.rules) once; openings = ap (λ (h : Header). Named h.names h.present) once; rests = behind }
 text_once r q (Named m c) (Based n b) x y f g line behind = absurd (header_no_head r q m c n line)
 text_once r q (Based m a) (Named n d) x y f g line behind = absurd (header_no_head q r n d m (sym line))
 text_once r q (Based m a) (Based n b) x y f g line behind =
@@ -100,7 +102,7 @@ follows_first bytes rules log end rest f =
     ap first_line (follows_text bytes rules log end rest f) ∙ opening_first rules f.opening (parts_behind bytes rules log end rest f) f.transcript.opens.fits
 
 line_good : (rules : RuleSet) (opening : Opening) (behind : List ℕ) → IsOpening opening → HasBadHeader (Some (line_in rules opening, behind)) → ⊥
-line_good rules (Named size count) behind is bad = bad.0 rules size count (record { few = is.few; within = is.within; is = refl })
+line_good rules (Named size count) behind is bad = bad.0 (record { rules = rules; names = size; present = count }) (record { few = is.few; within = is.within; is = refl })
 line_good rules (Based size base) behind is bad = bad.1 rules size is.few refl
 
 pub header_good : (bytes : List ℕ) (rules : RuleSet) (log : List LogPart) (end : NumberedMoment) (rest : List ℕ) → HasBadHeader (first_line bytes) → BeginsWithTranscript bytes rules log end rest → ⊥

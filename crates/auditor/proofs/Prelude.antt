@@ -37,11 +37,13 @@ pub use Rattle.entry_grammar.proofs.Headers.{spells_header_once}
 pub use Rattle.entry_grammar.proofs.Marks.{feed, apart_lack, both_lack, event_lacks, joined_lack, marked_lacks, name_lacks, number_lacks, target_lacks}
 pub use Rattle.entry_grammar.proofs.RefusalsOnce.{refusal_small}
 pub use Rattle.entry_grammar.specs.BaseLines.{base_lines, IsEdgeAbove, IsPlace, IsShaped, BreaksAt, NodesRise, EdgesRise, MayFollow}
-pub use Rattle.entry_grammar.specs.BaseParts.{numbers_text, NodesRead}
-pub use Rattle.entry_grammar.specs.Parsing.{AreCounts, Starts, IsFree}
-pub use Rattle.entry_grammar.specs.Spelling.{SpellsHeader, IsOrderedPair, SpellsEntry, max_entries, IsMoved, IsEnabled, IsReply, SpellsBaseLine, base_line_text, IsBaseLine}
+pub use Rattle.entry_grammar.specs.BaseParts.{NodesRead}
+pub use Rattle.entry_grammar.specs.Parsing.{Starts, IsFree}
+pub use Rattle.entry_grammar.specs.Spelling.{AreCounts, numbers_text, SpellsHeader, IsOrderedPair, SpellsEntry, max_entries, IsMoved, IsEnabled, IsReply, SpellsBaseLine, base_line_text, IsBaseLine}
 pub use Rattle.entry_grammar.specs.declared.base_line.BaseLine.{BaseLine}
 pub use Rattle.entry_grammar.specs.declared.base_line.BaseLine.TheVariants.{Head}
+pub use Rattle.entry_grammar.specs.declared.base_line.BaseNumbers.{BaseNumbers}
+pub use Rattle.entry_grammar.specs.declared.header.Header.{Header}
 pub use Rattle.line_text.specs.BaseText.{base_head, base_text, base_counts, node_record_text, link_text}
 pub use Rattle.line_text.specs.EntryText.{header_text, header_line, entry_text, entry_line, sizes_text}
 pub use Rattle.line_text.specs.EventText.{event_text}

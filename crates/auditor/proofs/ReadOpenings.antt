@@ -1,5 +1,5 @@
 -- What a transcript begins with, as it was read.
-use Rattle.auditor.proofs.Prelude.{◌≡◌, ℕ, ◌+◌, ◌<◌, ◌≤◌, ◌⊎◌, inl, inr, cond, List, [], ◌∷◌, ◌++◌, Option, Some, length, refl, sym, ap, subst, ◌∙◌, nat_eq, arith, nat_cmp, ordering_then, Less, Equal, Greater, lt-ltb, eq-eqb, false_from_ne_true, ltb-true, length-append, Base, NodeRecord, At, RuleSet, IsBaseMoment, NumberedMoment, pair_cmp, beginning_with, State, opening_with, table_of, weight_of, charge_bound, base_head, lines_with_ends, BaseLine, Head, first_line, SpellsBaseLine, SpellsHeader, base_line_text, IsEdgeAbove, NodesRise, EdgesRise, IsShaped, BreaksAt, base_lines, BadBase, HasImpossibleBase, HasBrokenBase, SpellsNoHead, Named, Based, Opens, Position, position_at, IsMetFirst, IsOpened}
+use Rattle.auditor.proofs.Prelude.{◌≡◌, ℕ, ◌+◌, ◌<◌, ◌≤◌, ◌⊎◌, inl, inr, cond, List, [], ◌∷◌, ◌++◌, Option, Some, length, refl, sym, ap, subst, ◌∙◌, nat_eq, arith, nat_cmp, ordering_then, Less, Equal, Greater, lt-ltb, eq-eqb, false_from_ne_true, ltb-true, length-append, Base, NodeRecord, At, RuleSet, IsBaseMoment, NumberedMoment, pair_cmp, beginning_with, State, opening_with, table_of, weight_of, charge_bound, base_head, lines_with_ends, BaseLine, Head, first_line, SpellsBaseLine, Header, SpellsHeader, base_line_text, IsEdgeAbove, NodesRise, EdgesRise, IsShaped, BreaksAt, base_lines, BadBase, HasImpossibleBase, HasBrokenBase, SpellsNoHead, Named, Based, Opens, Position, position_at, IsMetFirst, IsOpened}
 use Rattle.std.proofs.Common.{nat_lt}
 use Rattle.std.specs.Prelude.{IfSome}
 use Rattle.rule_machine.specs.declared.base.EpochStart.TheVariants.{Forgotten}
@@ -33,13 +33,13 @@ edges_rise last (edge ∷ edges) rise = (above_less last edge rise.0, edges_rise
 
 -- ---- a header
 
-pub header_opened : (text line rest : List ℕ) (rules : RuleSet) (size count : ℕ) (s : State) (p : Position) → first_line text ≡ Some (line, rest) → SpellsHeader line rules size count → s ≡ opening_with size count → p ≡ position_at (record { moment = record { state = s; spent = 0 }; count = 0 }) → IsOpened text rules size (At 0) p rest
-header_opened text line rest rules size count s p cut spells state is =
-    let start : NumberedMoment = record { moment = beginning_with size count; count = 0 } in
+pub header_opened : (text line rest : List ℕ) (header : Header) (s : State) (p : Position) → first_line text ≡ Some (line, rest) → SpellsHeader line header → s ≡ opening_with header.names header.present → p ≡ position_at (record { moment = record { state = s; spent = 0 }; count = 0 }) → IsOpened text header.rules header.names (At 0) p rest
+header_opened text line rest header s p cut spells state is =
+    let start : NumberedMoment = record { moment = beginning_with header.names header.present; count = 0 } in
     record {
       start = start;
-      follows = opened_follows text rest rules (Named size count) start (record { fits = record { few = spells.few; within = spells.within }; begins = refl; count = refl }) (omega arith)
-          (header_splits text line rest rules size count cut spells);
+      follows = opened_follows text rest header.rules (Named header.names header.present) start (record { fits = record { few = spells.few; within = spells.within }; begins = refl; count = refl }) (omega arith)
+          (header_splits text line rest header cut spells);
       size_is = refl;
       begun_is = refl;
       opening = is ∙ ap (λ (x : State). position_at (record { moment = record { state = x; spent = 0 }; count = 0 })) state;

@@ -9,6 +9,7 @@ use Rattle.rule_machine.specs.Answer.{Answers}
 use Rattle.rule_machine.specs.Tables.{table_of}
 use Rattle.line_text.specs.BaseText.{base_head, base_text}
 use Rattle.byte_streams.specs.Lines.{first_line}
+use Rattle.entry_grammar.specs.declared.header.Header.{Header}
 use Rattle.entry_grammar.specs.Spelling.{SpellsEntry, SpellsHeader}
 use Rattle.entry_grammar.specs.BaseLines.{IsShaped, BreaksAt, base_lines}
 use Rattle.auditor.specs.declared.fault.AuditFault.{AuditFault}
@@ -22,7 +23,7 @@ line_feeds [] = 0
 line_feeds (b ∷ bytes) = if b == 10 then line_feeds bytes + 1 else line_feeds bytes
 
 abbrev pub SpellsNoHeader : List ℕ → Type 0
-SpellsNoHeader line = (rules : RuleSet) (size count : ℕ) → SpellsHeader line rules size count → ⊥
+SpellsNoHeader line = (header : Header) → SpellsHeader line header → ⊥
 
 abbrev pub SpellsNoHead : List ℕ → Type 0
 SpellsNoHead line = (rules : RuleSet) (size : ℕ) → size ≤ 65535 → line ≡ base_head rules size → ⊥

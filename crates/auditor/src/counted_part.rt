@@ -7,7 +7,6 @@ ghost use Rattle.rule_machine.specs.Run.{Entry as Pair};
 ghost use Rattle.rule_machine.specs.State.{State};
 ghost use Rattle.entry_grammar.specs.Spelling.{SpellsEntry};
 ghost use Rattle.judged_rounds.specs.Following.{CountsIn};
-ghost use Rattle.reply_checker.specs.ReplyVerdicts.{cost_by};
 ghost use Rattle.auditor.specs.CountedParts.{FollowsAhead, IsReadyAhead, KeepsCount};
 ghost use Rattle.auditor.specs.Epochs.{IsEntryAhead, IsNextCost, changes};
 ghost use Rattle.auditor.specs.EntryWindows.{IsMetBehind};
@@ -20,8 +19,8 @@ use byte_streams::split_line;
 use entry_grammar::{EntryFault, read_entry};
 use judged_rounds::JudgedRounds;
 use log_entry::Entry;
-use reply_checker::Judge;
-use rule_machine::{Event, Reply, RuleSet, Want};
+use reply_checker::cost_of;
+use rule_machine::{Reply, RuleSet, Want};
 use std::alloc::{AllocError, Global};
 
 fn has_colon(line: &[u8]) -> bool
@@ -65,13 +64,6 @@ fn entry_ahead(alloc: Global, rest: &[u8]) -> Result<Option<Entry>, Want>
 }
 
 impl Audit {
-    /// The cost of an event in the state reached, if the event is accepted there.
-    fn cost_of(&self, rules: RuleSet, event: &Event) -> u32
-        ensures { result ≡ cost_by rules self.now.state event.now }
-    {
-        self.judge.cost_of(rules, event)
-    }
-
     /// The cost of the next entry, if that is an accepted disturbance.
     fn cost_ahead(&self, rules: RuleSet, ahead: &Option<Entry>) -> Option<u32>
         ensures { (rest : List ℕ) → IsEntryAhead rest ahead.now → IsNextCost rules self.now.state rest result }
@@ -80,33 +72,11 @@ impl Audit {
             return None;
         };
         match entry.reply() {
-            Reply::Accepted => Some(self.cost_of(rules, entry.event())),
+            Reply::Accepted => Some(cost_of(self.judge.net(), rules, entry.event())),
             _ => None,
         }
     }
-}
 
-fn prepare(rounds: &mut JudgedRounds, judge: &Judge, ahead: &Option<Entry>)
-    ensures rules { rounds.new.rules ≡ rounds.old.rules }
-    ensures rounds { rounds.new.counter.rounds ≡ rounds.old.counter.rounds }
-    ensures ready { (start : State) (log : List Pair) → CountsIn start log judge.now rounds.old → IsReadyAhead start log judge.now ahead.now rounds.new }
-{
-    if let Some(entry) = ahead {
-        rounds.prepare(judge, entry.event(), entry.reply());
-    }
-}
-
-fn follow(rounds: &mut JudgedRounds, judge: &Judge, ahead: &Option<Entry>)
-    ensures rules { rounds.new.rules ≡ rounds.old.rules }
-    ensures few { rounds.new.counter.rounds ≤ rounds.old.counter.rounds + cond (is_some ahead.now) 1 0 }
-    ensures counts { FollowsAhead judge.now ahead.now rounds.old rounds.new }
-{
-    if let Some(entry) = ahead {
-        rounds.follow(judge, entry.reply());
-    }
-}
-
-impl Audit {
     /// A count of rounds that begins in the state reached.
     pub(crate) fn begin_rounds(&self, alloc: Global, rules: RuleSet) -> Result<JudgedRounds, Want>
         ensures rules { IfOk result (λ it. it.rules ≡ rules) }
@@ -121,7 +91,9 @@ impl Audit {
         ensures rounds { rounds.new.counter.rounds ≡ rounds.old.counter.rounds }
         ensures ready { (start : State) (log : List Pair) → CountsIn start log self.now.state rounds.old → IsReadyAhead start log self.now.state ahead.now rounds.new }
     {
-        prepare(rounds, &self.judge, ahead);
+        if let Some(entry) = ahead {
+            rounds.prepare(&self.judge, entry.event(), entry.reply());
+        }
     }
 
     fn follow(&self, rounds: &mut JudgedRounds, ahead: &Option<Entry>)
@@ -129,7 +101,9 @@ impl Audit {
         ensures few { rounds.new.counter.rounds ≤ rounds.old.counter.rounds + cond (is_some ahead.now) 1 0 }
         ensures counts { FollowsAhead self.now.state ahead.now rounds.old rounds.new }
     {
-        follow(rounds, &self.judge, ahead);
+        if let Some(entry) = ahead {
+            rounds.follow(&self.judge, entry.reply());
+        }
     }
 }
 

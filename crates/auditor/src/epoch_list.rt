@@ -27,7 +27,8 @@ impl Audit {
         ensures { result ≡ epoch_at self.now.number self.now.state }
     {
         let start = EpochStart::At(self.number());
-        Epoch::new(start, 0, self.judge.edges(), self.judge.nodes())
+        let net = self.judge.net();
+        Epoch::new(start, 0, net.edges(), net.nodes())
     }
 
     /// The epoch that began at `start` and contains the state reached.
@@ -35,7 +36,8 @@ impl Audit {
         ensures epoch { result ≡ open_at start (stand_of self.now).moment }
         ensures few { result.moves ≤ self.now.counted.moves + 4294967295 }
     {
-        Epoch::new(start, self.spent(), self.judge.edges(), self.judge.nodes())
+        let net = self.judge.net();
+        Epoch::new(start, self.spent(), net.edges(), net.nodes())
     }
 }
 

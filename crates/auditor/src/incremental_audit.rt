@@ -6,6 +6,7 @@ ghost use Rattle.auditor.specs.TranscriptEnds.{EndsRun, MayGoOn};
 ghost use Rattle.auditor.specs.Verdict.{IsJudged};
 
 use crate::lines::MAX_LINE;
+use crate::transcript::end_of_bytes;
 use crate::transcript_cursor::TranscriptCursor;
 use crate::{AuditFault, TranscriptEnd};
 use byte_streams::split_line;
@@ -55,7 +56,8 @@ impl TranscriptCursor {
         Ok(rest)
     }
 
-    fn judge_whole(self, alloc: Global, rest: &[u8]) -> Result<TranscriptEnd, AuditFault>
+    /// Judges a text to its end; `rest` is what is not judged yet.
+    pub(crate) fn judge_whole(self, alloc: Global, rest: &[u8]) -> Result<TranscriptEnd, AuditFault>
         requires at { IsReachable self rest.now }
         requires compared { IsCompared self rest.now }
         ensures ended { (bytes : List ℕ) → IsCursorAt bytes self rest.now → EndsRun bytes result }
@@ -70,16 +72,6 @@ impl TranscriptCursor {
             }
         }
         Ok(replay.into_end())
-    }
-}
-
-pub(crate) fn judge_text(alloc: Global, text: &[u8]) -> Result<TranscriptEnd, AuditFault>
-    ensures ended { EndsRun text.now result }
-    ensures goes_on { IfOk result MayGoOn }
-{
-    match TranscriptCursor::open_whole(alloc, text) {
-        Ok((replay, rest)) => replay.judge_whole(alloc, rest),
-        Err(fault) => Err(fault),
     }
 }
 
@@ -241,7 +233,7 @@ impl IncrementalAudit {
         let IncrementalAudit { run, held, .. } = self;
         match run {
             Some(run) => run.judge_whole(alloc, &held),
-            None => judge_text(alloc, &held),
+            None => end_of_bytes(alloc, &held),
         }
     }
 }

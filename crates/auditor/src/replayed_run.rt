@@ -54,7 +54,7 @@ fn finish(replay: TranscriptCursor, last: Option<u32>) -> Result<ReplayedRun, Re
     ensures reached { IfOk result (λ reached. (reached.rules ≡ replay.rules) × (reached.judge ≡ replay.audit.state) × IsLongEnough last replay.audit.number) }
     ensures few { IfErr result (λ fault. (asked : ℕ) × (fault ≡ TooFew asked replay.audit.number) × (last ≡ Some asked) × (replay.audit.number < asked)) }
 {
-    let entries = replay.number();
+    let entries = replay.audit.number();
     match last {
         Some(asked) if entries < asked => Err(ReplayFault::TooFew { asked, entries }),
         _ => Ok(ReplayedRun {
@@ -86,11 +86,11 @@ pub fn state_after(
         Ok(begun) => begun,
         Err(fault) => return Err(ReplayFault::Judged(fault)),
     };
-    let base = replay.number();
+    let base = replay.audit.number();
     if let Some(asked) = forgotten(base, last) {
         return Err(ReplayFault::Forgotten { asked, base });
     }
-    while !rest.is_empty() && falls_short(replay.number(), last) {
+    while !rest.is_empty() && falls_short(replay.audit.number(), last) {
         match replay.advance_whole(alloc, rest) {
             Ok(behind) => rest = behind,
             Err(fault) => return Err(ReplayFault::Judged(fault)),

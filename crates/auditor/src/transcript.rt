@@ -8,7 +8,7 @@ ghost use Rattle.auditor.specs.AcceptedRuns.{IsAccepted};
 ghost use Rattle.auditor.specs.TranscriptEnds.{EndsRun, IsEndResult, IsTranscriptEnd, MayGoOn, summary_in};
 ghost use Rattle.auditor.specs.Verdict.{IsJudged, IsAuditFault, AcceptsRuns, JudgesDamage, JudgesRuns, NamesDamage};
 
-use crate::incremental_audit::judge_text;
+use crate::transcript_cursor::TranscriptCursor;
 use crate::transcript_end::summary_of;
 use crate::{AuditFault, PieceAudit, Summary, TranscriptEnd};
 use byte_streams::{CountingReader, chunk_of};
@@ -118,5 +118,8 @@ pub fn end_of_bytes(alloc: Global, bytes: &[u8]) -> Result<TranscriptEnd, AuditF
     ensures names_damage { JudgesDamage bytes.now (summary_in result) }
     ensures goes_on { IfOk result MayGoOn }
 {
-    judge_text(alloc, bytes)
+    match TranscriptCursor::open_whole(alloc, bytes) {
+        Ok((replay, rest)) => replay.judge_whole(alloc, rest),
+        Err(fault) => Err(fault),
+    }
 }

@@ -14,7 +14,7 @@ use crate::check::Audit;
 use crate::lines::{MAX_LINE, common_len, line_feeds, lines_before};
 use crate::{AuditFault, Summary};
 use byte_streams::split_line;
-use entry_grammar::{BaseFault, BaseLine, read_base, read_base_line, read_header};
+use entry_grammar::{BaseFault, BaseLine, Header, read_base, read_base_line, read_header};
 use line_text::{after, put_base};
 use log_entry::MAX_ENTRIES;
 use reply_checker::Judge;
@@ -90,19 +90,18 @@ impl TranscriptCursor {
         alloc: Global,
         text: &[u8],
         rest: &[u8],
-        header: (RuleSet, u32, u32),
+        header: Header,
     ) -> Result<TranscriptCursor, AuditFault>
-        requires few { header.1 ≤ 65535 }
-        requires within { header.2 ≤ header.1 }
-        requires line { (line : List ℕ) × (first_line text.now ≡ Some (line, rest.now)) × SpellsHeader line header.0 header.1 header.2 }
+        requires few { header.names ≤ 65535 }
+        requires within { header.present ≤ header.names }
+        requires line { (line : List ℕ) × (first_line text.now ≡ Some (line, rest.now)) × SpellsHeader line header }
         ensures begins { IfOk result (λ replay. IsCursorAfter text.now replay rest.now) }
         ensures fault { IfErr result (λ fault. (more : List ℕ) → IsMetFirst (text.now ++ more) fault) }
     {
-        let (rules, size, count) = header;
-        let judge = Judge::with_present(alloc, size, count)?;
+        let judge = Judge::with_present(alloc, header.names, header.present)?;
         Ok(TranscriptCursor {
-            rules,
-            size,
+            rules: header.rules,
+            size: header.names,
             begun: EpochStart::At(0),
             audit: Audit::new(judge, 0, 0),
             lines: lines_before(text, rest),
@@ -194,12 +193,6 @@ impl TranscriptCursor {
             Ok(None) => Err(cut_start(text)),
             Err(fault) => Err(fault),
         }
-    }
-
-    pub(crate) fn number(&self) -> u32
-        ensures { result ≡ self.now.audit.number }
-    {
-        self.audit.number()
     }
 
     // `None` if the entry's line has no LF yet. A line that is too long is refused before its LF comes.

@@ -1,5 +1,6 @@
 -- What each accepted disturbance does not change.
-use Rattle.containment_laws.proofs.Prelude.{◌≡◌, ℕ, Bool, true, false, cond, not, ◌&&◌, ◌||◌, [], map, Option, None, Some, nat_eq, IsTrue, sym, ap, ◌∙◌, subst, inl, ◌⊎◌, ⊎_elim, get_or, arith, true≢false, and_parts, and_from, and_cases, or_left, or_right, cases_Bool, cases_eq, eq-eqb, not_from_false, false_from_ne_true, none-some, same_Some, get_or-set_other, get_or-map, Event, Link, Unlink, Point, Flag, Join, Leave, Accepted, Network, edge, linked, present, without_node, State, Registers, IsState, is_at, points, pointer, pointer_of, flag, married, is_mutual, RuleTable, after_link, after_unlink, after_point, after_flag, after_join, after_leave, without_pointer, without_name, unless_at, refusal_of, Does, cond_none, true_from_not, inserted_cases, removed_was, edge_ends, contains-without, present_range, points_true, points_from, married_from, null_unmarried, some_from_is_at, pointer-with_pointer_other, pointer-with_pointer_same, flag-with_flag_other, flag-with_flag_same, without_pointer_was, without_pointer_flags, left_pointer, without_pointer_stays, nothing_left, lowered, point_parts, flagged_present, is_parted, is_hit}
+use Rattle.containment_laws.proofs.Prelude.{◌≡◌, ℕ, Bool, true, false, cond, not, ◌&&◌, ◌||◌, [], map, Option, None, Some, nat_eq, IsTrue, sym, ap, ◌∙◌, subst, inl, ◌⊎◌, get_or, arith, true≢false, and_parts, and_from, and_cases, or_left, or_right, cases_Bool, cases_eq, eq-eqb, not_from_false, false_from_ne_true, none-some, same_Some, get_or-set_other, get_or-map, Event, Link, Unlink, Point, Flag, Join, Leave, Accepted, Network, edge, linked, present, without_node, State, Registers, IsState, is_at, points, pointer, pointer_of, flag, married, is_mutual, RuleTable, after_link, after_unlink, after_point, after_flag, after_join, after_leave, without_pointer, without_name, unless_at, refusal_of, Does, cond_none, true_from_not, inserted_cases, removed_was, edge_ends, contains-without, present_range, points_true, points_from, married_from, null_unmarried, some_from_is_at, pointer-with_pointer_other, pointer-with_pointer_same, flag-with_flag_other, flag-with_flag_same, without_pointer_flags, left_pointer, nothing_left, lowered, point_parts, flagged_present, is_parted, is_hit}
+use Rattle.machine_laws.proofs.Disturbed.{IsCut, across, unlink_cuts}
 
 -- From one state to another by an event. A node that is not parted stays with its partner. A node that is not
 -- hit keeps a right flag; if its pointer is null it stays null, and the node gets no edge except to a married
@@ -27,36 +28,19 @@ link_mild t s a b = grind (arith, edge_ends, inserted_cases, true≢false, link_
 
 -- ---- unlink
 
-unlink_stays : (s : State) (a b x : ℕ) → (x ≡ a → is_at (pointer s x) b ≡ false) → (x ≡ b → is_at (pointer s x) a ≡ false) → pointer (after_unlink s a b) x ≡ pointer s x
-unlink_stays s a b x first second = grind (arith, without_pointer_stays)
+uncut : (p : ℕ → Option ℕ) (a b v w : ℕ) → p v ≡ Some w → p w ≡ Some v → ((is_at (p a) b && is_at (p b) a) && (nat_eq v a || nat_eq v b)) ≡ false → ((nat_eq v a && nat_eq w b) || (nat_eq v b && nat_eq w a)) ≡ false
+uncut p a b v w at back kept = grind arith
 
 unlink_mild : (t : RuleTable) (s : State) (a b : ℕ) → IsMild t s (Unlink a b) (after_unlink s a b)
 unlink_mild t s a b = record {
-  pairs = λ v w at back kept has.
-      let low = not_low v w at back kept in
-      let high = not_high v w at back kept in (
-        unlink_stays s a b v
-            (λ va. elsewhere v b (λ there. low va (same_Some w b (sym at ∙ there))))
-            (λ vb. elsewhere v a (λ there. high vb (same_Some w a (sym at ∙ there))))
-            ∙ at,
-        unlink_stays s a b w
-            (λ wa. elsewhere w b (λ there. high (same_Some v b (sym back ∙ there)) wa))
-            (λ wb. elsewhere w a (λ there. low (same_Some v a (sym back ∙ there)) wb))
-            ∙ back,
-      );
-  nulls = λ v null calm. nothing_left (pointer (after_unlink s a b) v) (λ y e. none-some y (sym null ∙ without_pointer_was s.registers a b v y (without_pointer_was (without_pointer s.registers a b) b a v y e)));
+  pairs = λ v w at back kept has. let off = uncut (pointer s) a b v w at back kept in (cut.stays v w at off, cut.stays w v back (cut.back w v ∙ off));
+  nulls = λ v null calm. nothing_left (pointer (after_unlink s a b) v) (λ y e. none-some y (sym null ∙ (cut.was v y e).0));
   edges = λ v w null calm near. inl (removed_was s.network.edges (edge a b) (edge v w) near);
   flags = λ v has right calm. ap (λ l. get_or l v false) (without_pointer_flags (without_pointer s.registers a b) b a ∙ without_pointer_flags s.registers a b);
 }
   where
-    elsewhere : (x y : ℕ) → (pointer s x ≡ Some y → ⊥) → is_at (pointer s x) y ≡ false
-    elsewhere x y h = false_from_ne_true (is_at (pointer s x) y) (λ there. h (some_from_is_at (pointer s x) y there))
-
-    not_low : (v w : ℕ) → pointer s v ≡ Some w → pointer s w ≡ Some v → is_parted s (Unlink a b) v ≡ false → v ≡ a → w ≡ b → ⊥
-    not_low v w at back kept va wb = grind (arith, true≢false, and_from, mutual_from, or_left, eq-eqb)
-
-    not_high : (v w : ℕ) → pointer s v ≡ Some w → pointer s w ≡ Some v → is_parted s (Unlink a b) v ≡ false → v ≡ b → w ≡ a → ⊥
-    not_high v w at back kept vb wa = grind (arith, true≢false, and_from, mutual_from, or_right, eq-eqb)
+    cut : IsCut (pointer s) (pointer (after_unlink s a b)) (across s a b)
+    cut = unlink_cuts s a b
 
 -- ---- point
 

@@ -1,8 +1,10 @@
 -- The reach is not too large: after a disturbance of a stable network no node in it is at rest. One
 -- exception, if flags are not used: a node that is parted among married neighbours may be.
-use Rattle.containment_laws.proofs.Prelude.{◌≡◌, ◌≢◌, ℕ, Bool, true, false, cond, not, ◌&&◌, ◌||◌, Option, None, Some, is_some, is_none, find, nat_eq, IsTrue, refl, sym, ap, ◌∙◌, subst, inl, inr, ◌⊎◌, ⊎_elim, arith, get_or, eq_by_cmp, true≢false, and_parts, or_cases, or_left, eqb-true, not-true, false_from_ne_true, eq_by_cmp_equiv, get_or-set_other, none-some, same_Some, Event, Link, Unlink, Point, Flag, Join, Leave, Accepted, Network, pair_cmp, edge, linked, neighbours, present, with_edge, State, Registers, IsState, points, pointer, pointer_of, flag, married, is_mutual, RuleTable, IsStable, after_link, after_unlink, after_point, after_flag, after_leave, without_pointer, refusal_of, Does, Answers, cond_none, true_from_not, pair_total, contains-insert, still_removed, still_without, edge_ends, IsTable, answers_keep, pointer_present, option_cases, present_range, linked_apart, linked_back, near_some, some_is, married_some, points_from, pointer_linked, married_from, null_unmarried, unanswered_unmarried, if_some_at, pointer-with_pointer_other, pointer-with_pointer_same, flag-with_flag_same, without_pointer_was, without_pointer_gone, without_pointer_flags, left_pointer, nothing_left, point_parts, flagged_present, is_surrounded, is_at_rest, is_parted, is_hit, ReachIsExact}
+use Rattle.containment_laws.proofs.Prelude.{◌≡◌, ◌≢◌, ℕ, Bool, true, false, cond, not, ◌&&◌, ◌||◌, Option, None, Some, is_some, is_none, find, nat_eq, IsTrue, refl, sym, ap, ◌∙◌, subst, inl, inr, ◌⊎◌, ⊎_elim, arith, get_or, eq_by_cmp, true≢false, and_parts, or_cases, or_left, eqb-true, not-true, false_from_ne_true, eq_by_cmp_equiv, get_or-set_other, none-some, same_Some, Event, Link, Unlink, Point, Flag, Join, Leave, Accepted, Network, pair_cmp, edge, linked, neighbours, present, with_edge, State, IsState, points, pointer, flag, married, is_mutual, RuleTable, IsStable, after_link, after_unlink, after_point, after_flag, after_leave, without_pointer, refusal_of, Does, Answers, cond_none, true_from_not, pair_total, contains-insert, still_removed, still_without, edge_ends, IsTable, answers_keep, pointer_present, option_cases, present_range, linked_apart, linked_back, near_some, some_is, married_some, points_from, pointer_linked, married_from, null_unmarried, unanswered_unmarried, if_some_at, pointer-with_pointer_other, pointer-with_pointer_same, flag-with_flag_same, without_pointer_flags, left_pointer, nothing_left, point_parts, flagged_present, is_surrounded, is_at_rest, is_parted, is_hit, ReachIsExact}
 use Rattle.containment_laws.proofs.Edits.{mutual_is}
 use Rattle.containment_laws.proofs.AtRest.{IsAtRest, rest_is, rest_answered, rest_near}
+use Rattle.machine_laws.proofs.Disturbed.{unlink_cuts}
+use Rattle.rule_machine.specs.State.{is_at}
 
 -- a pointer that is not answered
 abbrev IsUnanswered : State → ℕ → Type 0
@@ -33,7 +35,7 @@ busy_unmarried s v (inr (w, at, alone)) = unanswered_unmarried s v w at alone
 answer : (u : Bool) (s : State) (v w : ℕ) → IsStable u s → pointer s v ≡ Some w → pointer s w ≡ Some v
 answer u s v w stable at = if_some_at (pointer s v) (λ x. pointer s x ≡ Some v) w at (stable.answered v)
 
-unmarried_null : (u : Bool) (s : State) (v : ℕ) → IsState s → IsStable u s → married s v ≡ false → pointer s v ≡ None
+pub unmarried_null : (u : Bool) (s : State) (v : ℕ) → IsState s → IsStable u s → married s v ≡ false → pointer s v ≡ None
 unmarried_null u s v good stable alone =
     ⊎_elim (λ null. null) (λ some. absurd (true≢false (sym (married_from s v some.0 good some.1 (answer u s v some.0 stable some.1)) ∙ alone))) (option_cases (pointer s v))
 
@@ -66,7 +68,7 @@ unlink_hard : (u : Bool) (s : State) (a b : ℕ) → IsState s → IsHard u s (U
 unlink_hard u s a b good = record {
   busy = λ v h. inl (nothing_left (pointer (after_unlink s a b) v) (gone v h));
   was = λ v h. (paired v h).1;
-  flags = λ v h. ap (λ l. get_or l v false) (without_pointer_flags half b a ∙ without_pointer_flags s.registers a b);
+  flags = λ v h. ap (λ l. get_or l v false) (without_pointer_flags (without_pointer s.registers a b) b a ∙ without_pointer_flags s.registers a b);
   edges = λ v w h near alone.
       let pair = and_parts (is_mutual s a b) (nat_eq v a || nat_eq v b) h in
       let at = mutual_is s a b pair.0 in
@@ -75,16 +77,10 @@ unlink_hard u s a b good = record {
       (λ p. true≢false (sym (ap (married s) p.1 ∙ married_from s b a good at.1 at.0) ∙ alone))
       (λ p. true≢false (sym (ap (married s) p.1 ∙ married_from s a b good at.0 at.1) ∙ alone))
       (edge_ends a b v w same)) near;
-  nulls = λ v w h null. nothing_left (pointer (after_unlink s a b) w) (λ y e. none-some y (sym null ∙ before w y e));
+  nulls = λ v w h null. nothing_left (pointer (after_unlink s a b) w) (λ y e. none-some y (sym null ∙ ((unlink_cuts s a b).was w y e).0));
   hits = λ v h. absurd (true≢false (sym h));
 }
   where
-    half : Registers
-    half = without_pointer s.registers a b
-
-    before : (w y : ℕ) → pointer (after_unlink s a b) w ≡ Some y → pointer s w ≡ Some y
-    before w y e = without_pointer_was s.registers a b w y (without_pointer_was (without_pointer s.registers a b) b a w y e)
-
     paired : (v : ℕ) → is_parted s (Unlink a b) v ≡ true → (((v ≡ a) × (pointer s v ≡ Some b)) ⊎ ((v ≡ b) × (pointer s v ≡ Some a))) × (married s v ≡ true)
     paired v h =
         let pair = and_parts (is_mutual s a b) (nat_eq v a || nat_eq v b) h in
@@ -94,13 +90,11 @@ unlink_hard u s a b good = record {
         (λ vb. (inr (eqb-true v b vb, ap (pointer s) (eqb-true v b vb) ∙ at.1), ap (married s) (eqb-true v b vb) ∙ married_from s b a good at.1 at.0))
         (or_cases (nat_eq v a) (nat_eq v b) pair.1)
 
+    crossed : (p : ℕ → Option ℕ) (v y : ℕ) → p v ≡ Some y → ((nat_eq v a && nat_eq y b) || (nat_eq v b && nat_eq y a)) ≡ false → ((is_at (p a) b && is_at (p b) a) && (nat_eq v a || nat_eq v b)) ≡ true → ⊥
+    crossed p v y at off h = grind arith
+
     gone : (v : ℕ) → is_parted s (Unlink a b) v ≡ true → (y : ℕ) → pointer (after_unlink s a b) v ≡ Some y → ⊥
-    gone v h y e =
-        let then = without_pointer_was (without_pointer s.registers a b) b a v y e in
-        ⊎_elim
-        (λ low. without_pointer_gone s.registers a b (ap (pointer_of (without_pointer s.registers a b)) (sym low.0) ∙ then ∙ sym (before v y e) ∙ low.1))
-        (λ high. without_pointer_gone (without_pointer s.registers a b) b a (ap (pointer (after_unlink s a b)) (sym high.0) ∙ e ∙ sym (before v y e) ∙ high.1))
-        (paired v h).0
+    gone v h y e = let was = (unlink_cuts s a b).was v y e in crossed (pointer s) v y was.0 was.1 h
 
 -- ---- point
 

@@ -1,5 +1,5 @@
 -- What follows if each rule asks for work: no rule is enabled at a node at rest, nor at an absent one.
-use Rattle.containment_laws.proofs.Prelude.{◌≡◌, ◌≢◌, ℕ, None, IsTrue, ⊎_elim, cases_Bool, false_from_ne_true, true_from_ne_false, Act, Update, Marry, Seduce, Abandon, present, State, IsState, flag, married, RuleTable, rule_at, act_none, linked_present, married_some, suitor_linked, IsInside, pointer_present, AsksForWork, is_at_rest, arith}
+use Rattle.containment_laws.proofs.Prelude.{◌≡◌, ◌≢◌, ℕ, None, IsTrue, cases_Bool, false_from_ne_true, true_from_ne_false, Act, Update, Marry, Seduce, Abandon, present, State, IsState, flag, married, RuleTable, rule_at, act_none, linked_present, married_some, suitor_linked, IsInside, pointer_present, AsksForWork, is_at_rest, arith}
 use Rattle.rule_machine.specs.Table.{IsTable}
 use Rattle.containment_laws.proofs.AtRest.{IsAtRest, rest_is, rest_answered, rest_no_null, rest_no_suitor}
 

@@ -1,8 +1,9 @@
 -- A run loses at most one pair of its start for each disturbance that parts a pair.
-use Rattle.containment_laws.proofs.Prelude.{◌≡◌, ◌≢◌, ℕ, ◌+◌, ◌≤◌, Bool, true, false, cond, not, ◌&&◌, List, [], ◌∷◌, count_by, Contains, Option, None, Some, filter_map, IsTrue, refl, sym, ap, ◌∙◌, subst, inl, inr, ◌⊎◌, ⊎_elim, arith, cons_option, true≢false, and_parts, cases_Bool, cases_eq, cond-true, cond-false, not-true, not_from_true, Event, Reply, Accepted, State, IsState, pointer, is_mutual, RuleTable, pair_above, mutual_pairs, Answers, spent_after, Entry, Moment, pairs_apart, IsTable, contains_first, contains_rest, contains_cases, contains_empty, pair_from, pair_listed, answers_keep, end_of_path, IsIn, IsWithoutRepeats, count_into, count_all, sum_le, sum_add, none_count, IsInside, IsPath, names_without_repeats, AsksForWork, parts_a_pair, partings_of, partings_in, lost_pairs}
+use Rattle.containment_laws.proofs.Prelude.{length, ◌≡◌, ◌≢◌, ℕ, ◌+◌, ◌≤◌, Bool, true, false, cond, not, ◌&&◌, List, [], ◌∷◌, count_by, Contains, Option, None, Some, filter_map, IsTrue, refl, sym, ap, ◌∙◌, subst, inl, inr, ◌⊎◌, ⊎_elim, arith, cons_option, true≢false, and_parts, not-true, not_from_true, Event, Reply, Accepted, State, IsState, pointer, is_mutual, RuleTable, pair_above, mutual_pairs, Answers, spent_after, Entry, Moment, pairs_apart, IsTable, contains_first, contains_rest, contains_cases, contains_empty, pair_from, pair_listed, answers_keep, end_of_path, IsIn, IsWithoutRepeats, count_into, count_all, none_count, IsInside, IsPath, names_without_repeats, AsksForWork, parts_a_pair, partings_of, partings_in, lost_pairs}
+use Rattle.machine_laws.proofs.ListCounts.{count_within, count_split, count_not, count_le}
 use Rattle.containment_laws.proofs.Edits.{mutual_from, mutual_is}
 use Rattle.containment_laws.proofs.Containment.{calm_keeps_pair}
-use Rattle.containment_laws.proofs.Partings.{main_node, share, spared_stays, none_parted, unparted_stays}
+use Rattle.containment_laws.proofs.Partings.{lost_has, main_node, share, none_parted, unparted_stays}
 
 -- ---- the list of pairs
 
@@ -60,26 +61,19 @@ one_lost t table s good n event s' answers =
 
     has : (e : ℕ × ℕ) → IsIn e (mutual_pairs s) → IsTrue (lost e) → (e.0 ≡ main_node event) ⊎ (e.1 ≡ main_node event)
     has e there h =
-        ⊎_elim inl
-        (λ low. ⊎_elim inr
-        (λ high. let pair = pair_from s e (in_contains e (mutual_pairs s) there) in
-        let kept = spared_stays t table s good n event s' answers e.0 e.1 pair.there pair.back low high in
-        absurd (true≢false (sym (mutual_from s' e.0 e.1 kept.0 kept.1) ∙ not-true (is_mutual s' e.0 e.1) h)))
-        (cases_eq e.1 (main_node event)))
-        (cases_eq e.0 (main_node event))
+        lost_has t table s good n event s' answers e (in_contains e (mutual_pairs s) there) (λ kept.
+        let pair = pair_from s' e kept in
+        true≢false (sym (mutual_from s' e.0 e.1 pair.there pair.back) ∙ not-true (is_mutual s' e.0 e.1) h))
+
+-- at most `most` if the test holds, else 0
+pub most_if : (b : Bool) (n most : ℕ) → (b ≡ true → n ≤ most) → (b ≡ false → n ≡ 0) → n ≤ cond b most 0
+most_if true n most few none = few refl
+most_if false n most few none = omega (arith, none refl)
 
 accepted_lost : (t : RuleTable) → IsTable t → (s : State) → IsState s → (n : ℕ) (event : Event) (s' : State) → Answers t s n event Accepted s' → lost_pairs s s' ≤ cond (parts_a_pair s event) 1 0
 accepted_lost t table s good n event s' answers =
-    ⊎_elim
-    (λ parts.
-    let one = one_lost t table s good n event s' answers in
-    let is = cond-true {A = ℕ} (parts_a_pair s event) 1 0 parts in
-    omega (arith, one, is))
-    (λ none.
-    let zero = none_lost s s' (λ v w at back. unparted_stays t table s good n event s' answers v w at back (none_parted s event v good none) (none_parted s event w good none)) in
-    let is = cond-false {A = ℕ} (parts_a_pair s event) 1 0 none in
-    omega (arith, zero, is))
-    (cases_Bool (parts_a_pair s event))
+    most_if (parts_a_pair s event) (lost_pairs s s') 1 (λ parts. one_lost t table s good n event s' answers)
+    (λ none. none_lost s s' (λ v w at back. unparted_stays t table s good n event s' answers v w at back (none_parted s event v good none) (none_parted s event w good none)))
 
 -- no other answer loses one
 calm_lost : (t : RuleTable) → AsksForWork t → IsInside t → (s : State) → IsState s → (n : ℕ) (event : Event) (reply : Reply) (s' : State) → Answers t s n event reply s' → reply ≢ Accepted → lost_pairs s s' ≤ 0
@@ -90,25 +84,26 @@ answer_lost : (t : RuleTable) → IsTable t → AsksForWork t → IsInside t →
 answer_lost t table asks inside s good n event Accepted s' answers = accepted_lost t table s good n event s' answers
 answer_lost t table asks inside s good n event reply s' answers = calm_lost t asks inside s good n event reply s' answers (λ e. cc)
 
+-- a pair that passes a test, and stays, is counted then
+still_few : (s s' : State) → IsState s' → (p : ℕ × ℕ → Bool) → count_by (λ e. p e && is_mutual s' e.0 e.1) (mutual_pairs s) ≤ count_by p (mutual_pairs s')
+still_few s s' good' p =
+    count_within (λ e. p e && is_mutual s' e.0 e.1) p (mutual_pairs s) (mutual_pairs s') (pairs_once s) (λ e there h.
+    let pair = pair_from s e (in_contains e (mutual_pairs s) there) in
+    let parts = and_parts (p e) (is_mutual s' e.0 e.1) h in
+    let still = mutual_is s' e.0 e.1 parts.1 in
+    (contains_in e (mutual_pairs s') (pair_listed s' e.0 e.1 good' pair.ordered still.0 still.1), parts.0))
+
 -- a pair lost on the way is lost at first or later
 lost_later : (s s' s'' : State) → IsState s' → lost_pairs s s'' ≤ lost_pairs s s' + lost_pairs s' s''
 lost_later s s' s'' good' =
-    let now : ℕ × ℕ → Bool = λ e. not (is_mutual s' e.0 e.1) in
-    let then : ℕ × ℕ → Bool = λ e. is_mutual s' e.0 e.1 && not (is_mutual s'' e.0 e.1) in
-    let le = sum_le (λ (e : ℕ × ℕ). cond (not (is_mutual s'' e.0 e.1)) 1 0) (λ e. cond (now e) 1 0 + cond (then e) 1 0) (mutual_pairs s) (λ e there. one (is_mutual s' e.0 e.1) (is_mutual s'' e.0 e.1)) in
-    let both = sum_add (λ (e : ℕ × ℕ). cond (now e) 1 0) (λ e. cond (then e) 1 0) (mutual_pairs s) in
-    let into = count_into then (mutual_pairs s) (λ (e : ℕ × ℕ). e) (λ e. not (is_mutual s'' e.0 e.1)) (mutual_pairs s') (pairs_once s) (record {
-      lands = λ e there h.
-          let pair = pair_from s e (in_contains e (mutual_pairs s) there) in
-          let still = mutual_is s' e.0 e.1 (and_parts (is_mutual s' e.0 e.1) (not (is_mutual s'' e.0 e.1)) h).0 in
-          contains_in e (mutual_pairs s') (pair_listed s' e.0 e.1 good' pair.ordered still.0 still.1);
-      passes = λ e there h. (and_parts (is_mutual s' e.0 e.1) (not (is_mutual s'' e.0 e.1)) h).1;
-      apart = λ e f there also h k same. same;
-    }) in
-    omega (arith, le, both, into)
-  where
-    one : (b c : Bool) → ◌≤◌ (cond (not c) 1 0) (cond (not b) 1 0 + cond (b && not c) 1 0)
-    one b c = grind arith
+    let gone = λ (e : ℕ × ℕ). not (is_mutual s'' e.0 e.1) in
+    let at_once = count_le (λ e. gone e && not (is_mutual s' e.0 e.1)) (λ e. not (is_mutual s' e.0 e.1)) (mutual_pairs s) (λ e there h. (and_parts (gone e) (not (is_mutual s' e.0 e.1)) h).1) in
+    omega (arith, count_split gone (λ e. is_mutual s' e.0 e.1) (mutual_pairs s), still_few s s' good' gone, at_once)
+
+-- all pairs but the lost ones are left
+pub pairs_left : (s s' : State) → IsState s' → length (mutual_pairs s) ≤ length (mutual_pairs s') + lost_pairs s s'
+pairs_left s s' good' =
+    omega (arith, count_not (λ e. is_mutual s' e.0 e.1) (mutual_pairs s), still_few s s' good' (λ e. true), count_all (mutual_pairs s'))
 
 -- Along any path at most as many of the first pairs are lost as disturbances part one.
 pub path_lost : (t : RuleTable) → IsTable t → AsksForWork t → IsInside t → (start : Moment) → IsState start.state → (path : List (Entry × State)) → IsPath t start path → lost_pairs start.state (end_of_path start.state path) ≤ partings_in start.state path

@@ -1,13 +1,14 @@
 -- The laws, for any table of rules that asks for work.
-use Rattle.containment_laws.proofs.Prelude.{sym, ap, ◌∙◌, inl, inr, ⊎_elim, true≢false, cases_Bool, RuleTable, present, hsu_huang, manne, Accepted, IsTable, pair_from, pair_listed, answers_keep, IsInside, step_done, hsu_huang_table, manne_table, AsksForWork, hsu_huang_asks, manne_asks, is_at_rest, is_in_reach, is_ever_reached}
+use Rattle.containment_laws.proofs.Prelude.{arith, sym, ap, ◌∙◌, inl, inr, ⊎_elim, true≢false, cases_Bool, RuleTable, present, hsu_huang, manne, Accepted, IsTable, pair_from, pair_listed, answers_keep, IsInside, step_done, hsu_huang_table, manne_table, AsksForWork, hsu_huang_asks, manne_asks, is_at_rest, is_in_reach, is_ever_reached}
+use Rattle.machine_laws.proofs.CostsOfRuns.{path_keeps}
 use Rattle.containment_laws.specs.Laws as law
 use Rattle.containment_laws.proofs.AtRest.{rest_is, rest_from, all_rest}
 use Rattle.containment_laws.proofs.IdleNodes.{inside_from, at_rest_idle}
 use Rattle.containment_laws.proofs.Steps.{step_rests, step_keeps_pair}
 use Rattle.containment_laws.proofs.Containment.{run_rests, run_keeps_pairs, run_keeps_network, disturbed_rests, path_rests}
-use Rattle.containment_laws.proofs.LostPairs.{path_lost}
+use Rattle.containment_laws.proofs.LostPairs.{path_lost, pairs_left}
 use Rattle.containment_laws.proofs.ExactReach as exact
-use Rattle.containment_laws.proofs.Partings.{one_pair_lost, path_pairs_left}
+use Rattle.containment_laws.proofs.Partings.{one_pair_lost}
 
 -- what the laws ask of a table
 pub record IsContaining (t : RuleTable) : Type 0 where
@@ -107,7 +108,8 @@ module _ (t : RuleTable) (is : IsContaining t) where
   pairs_are_accounted_for = path_lost t is.table is.asks is.inside
 
   pub pairs_are_left : law.PairsAreLeft t
-  pairs_are_left = path_pairs_left t is.table is.asks is.inside
+  pairs_are_left start good path walk =
+      omega (arith, pairs_left start.state _ (path_keeps t is.table start good path walk), pairs_are_accounted_for start good path walk)
 
   pub reach_is_exact : law.ReachIsExact t
   reach_is_exact = exact.reach_is_exact t is.table

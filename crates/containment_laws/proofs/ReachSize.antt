@@ -1,87 +1,38 @@
 -- How many nodes a disturbance can reach: a degree or two, whatever the size of the network.
-use Rattle.containment_laws.proofs.Prelude.{◌≡◌, ℕ, ◌+◌, ◌≤◌, Bool, true, false, cond, not, ◌&&◌, ◌||◌, filter, List, [], ◌∷◌, count_by, nat_eq, Option, None, Some, is_some, find, IsTrue, refl, sym, ap, ◌∙◌, subst, inl, inr, ◌⊎◌, ⊎_elim, arith, true≢false, and_parts, or_cases, cases_eq, eqb-true, eq-eqb, cond-true, cond-false, not-true, false_from_ne_true, ne_eqb, same_Some, Event, Link, Unlink, Point, Flag, Leave, Network, linked, neighbours, names, State, IsState, pointer, married, is_mutual, linked_back, linked_present, near_some, some_is, pointer_linked, married_some, married_from, IsIn, count_into, count_all, sum_le, sum_add, degree, degree_at, none_count, once, in_names, names_without_repeats, is_parted, is_hit, is_in_reach, ReachIsSmall}
+use Rattle.containment_laws.proofs.Prelude.{◌≡◌, ℕ, ◌+◌, ◌≤◌, Bool, true, false, cond, not, ◌&&◌, ◌||◌, [], ◌∷◌, count_by, nat_eq, Option, None, Some, is_some, find, IsTrue, refl, sym, ap, ◌∙◌, subst, inl, inr, ◌⊎◌, ⊎_elim, arith, true≢false, and_parts, or_cases, eqb-true, eq-eqb, not-true, false_from_ne_true, same_Some, Event, Link, Unlink, Point, Flag, Leave, Network, linked, neighbours, names, State, IsState, pointer, married, is_mutual, linked_back, linked_present, near_some, some_is, pointer_linked, married_some, married_from, IsIn, degree, degree_at, none_count, once, in_names, names_without_repeats, is_parted, is_hit, is_in_reach, ReachIsSmall}
+use Rattle.machine_laws.proofs.ListCounts.{count_among, count_le, count_or, count_split, at_most_one, one_count}
+use Rattle.machine_laws.proofs.Members.{in_kept}
+use Rattle.std.proofs.lemmas.Bool.{and_from, or_left, or_right}
 use Rattle.containment_laws.proofs.Edits.{mutual_is}
+use Rattle.containment_laws.proofs.Partings.{main_node, parted_near}
 
 -- ---- counts
 
-kept : (p : ℕ → Bool) (v : ℕ) (xs : List ℕ) → IsTrue (p v) → IsIn v xs → IsIn v (filter p xs)
-kept p v [] passes at = absurd at
-kept p v (x ∷ xs) passes (inl same) = subst (λ b. IsIn v (cond b (x ∷ filter p xs) (filter p xs))) (sym (ap p same ∙ passes)) (inl same)
-kept p v (x ∷ xs) passes (inr there) = grind (arith, kept p v xs passes there)
-
 linked_few : (net : Network) (a : ℕ) → count_by (linked net a) (names net) ≤ degree net a
-linked_few net a =
-    let into = count_into (linked net a) (names net) (λ (x : ℕ). x) (λ x. true) (neighbours net a) (names_without_repeats net) (record {
-      lands = λ x there h. kept (linked net a) x (names net) h there;
-      passes = λ x there h. refl;
-      apart = λ x y there also h k same. same;
-    }) in
-    let all = count_all (neighbours net a) in
-    omega (arith, into, all)
+linked_few net a = count_among (linked net a) (names net) (neighbours net a) (names_without_repeats net) (λ x there h. in_kept (linked net a) x (names net) h there)
 
 either_few : (net : Network) (p : ℕ → Bool) (a b : ℕ) → ((x : ℕ) → p x ≡ true → IsTrue (linked net a x) ⊎ IsTrue (linked net b x)) → count_by p (names net) ≤ degree net a + degree net b
 either_few net p a b near =
-    let le = sum_le (λ x. cond (p x) 1 0) (λ x. cond (linked net a x) 1 0 + cond (linked net b x) 1 0) (names net) (λ x there. one (p x) (linked net a x) (linked net b x) (near x)) in
-    let both = sum_add (λ x. cond (linked net a x) 1 0) (λ x. cond (linked net b x) 1 0) (names net) in
-    let first = linked_few net a in
-    let second = linked_few net b in
-    omega (arith, le, both, first, second)
-  where
-    one : (b c d : Bool) → (b ≡ true → IsTrue c ⊎ IsTrue d) → ◌≤◌ (cond b 1 0) (cond c 1 0 + cond d 1 0)
-    one b c d h = grind arith
+    let either = count_le p (λ x. linked net a x || linked net b x) (names net) (λ x there h. ⊎_elim (or_left _ _) (or_right _ _) (near x h)) in
+    omega (arith, either, count_or (linked net a) (linked net b) (names net), linked_few net a, linked_few net b)
 
 two_few : (net : Network) (p : ℕ → Bool) (a b : ℕ) → ((x : ℕ) → p x ≡ true → (x ≡ a) ⊎ (x ≡ b)) → count_by p (names net) ≤ 2
-two_few net p a b at =
-    let le = sum_le (λ x. cond (p x) 1 0) (λ x. cond (nat_eq a x) 1 0 + cond (nat_eq b x) 1 0) (names net) (λ x there. one x (p x) refl) in
-    let both = sum_add (λ x. cond (nat_eq a x) 1 0) (λ x. cond (nat_eq b x) 1 0) (names net) in
-    let first = once a (names net) (names_without_repeats net) in
-    let second = once b (names net) (names_without_repeats net) in
-    omega (arith, le, both, first, second)
-  where
-    tests : (c d : Bool) → (c ≡ true) ⊎ (d ≡ true) → ◌≤◌ 1 (cond c 1 0 + cond d 1 0)
-    tests c d h = grind arith
-
-    one : (x : ℕ) (t : Bool) → p x ≡ t → ◌≤◌ (cond t 1 0) (cond (nat_eq a x) 1 0 + cond (nat_eq b x) 1 0)
-    one x t e = grind arith
+two_few net p a b at = count_among p (names net) (a ∷ b ∷ []) (names_without_repeats net) (λ x there h. ⊎_elim (λ low. inl (sym low)) (λ high. inr (inl (sym high))) (at x h))
 
 one_few : (net : Network) (p : ℕ → Bool) (a : ℕ) → ((x : ℕ) → p x ≡ true → x ≡ a) → count_by p (names net) ≤ 1
-one_few net p a at =
-    let into = count_into p (names net) (λ (x : ℕ). x) (nat_eq a) (names net) (names_without_repeats net) (record {
-      lands = λ x there h. there;
-      passes = λ x there h. eq-eqb a x (sym (at x h));
-      apart = λ x y there also h k same. same;
-    }) in
-    let first = once a (names net) (names_without_repeats net) in
-    omega (arith, into, first)
+one_few net p a at = at_most_one p a (names net) (names_without_repeats net) (λ x there. at x)
 
 -- all that pass but u, and for it another neighbour of u that does not pass, are neighbours of u
-own_few : (net : Network) (p : ℕ → Bool) (u v : ℕ) → IsIn v (neighbours net u) → (p v ≡ false) → ((x : ℕ) → p x ≡ true → IsIn x (names net) → (x ≡ u) ⊎ IsIn x (neighbours net u)) → count_by p (names net) ≤ degree net u
-own_few net p u v there_v out near =
-    let into = count_into p (names net) place (λ x. true) (neighbours net u) (names_without_repeats net) (record {
-      lands = λ x there h. ⊎_elim
-          (λ same. subst (λ y. IsIn y (neighbours net u)) (sym (at_u x same)) there_v)
-          (λ near_x. ⊎_elim (λ same. subst (λ y. IsIn y (neighbours net u)) (sym (at_u x same)) there_v) (λ apart. subst (λ y. IsIn y (neighbours net u)) (sym (elsewhere x apart)) near_x) (cases_eq x u))
-          (near x h there);
-      passes = λ x there h. refl;
-      apart = λ x y there also h k same. ⊎_elim
-          (λ xu. ⊎_elim (λ yu. xu ∙ sym yu) (λ y_apart. absurd (never y k (sym (at_u x xu) ∙ same ∙ elsewhere y y_apart))) (cases_eq y u))
-          (λ x_apart. ⊎_elim (λ yu. absurd (never x h (sym (at_u y yu) ∙ sym same ∙ elsewhere x x_apart))) (λ y_apart. sym (elsewhere x x_apart) ∙ same ∙ elsewhere y y_apart) (cases_eq y u))
-          (cases_eq x u);
-    }) in
-    let all = count_all (neighbours net u) in
-    omega (arith, into, all)
+own_few : (net : Network) (p : ℕ → Bool) (u v : ℕ) → IsIn v (names net) → IsTrue (linked net u v) → (p v ≡ false) → ((x : ℕ) → p x ≡ true → (x ≡ u) ⊎ IsTrue (linked net u x)) → count_by p (names net) ≤ degree net u
+own_few net p u v there near_v out near =
+    let xs = names net in
+    let within = count_le p (λ x. nat_eq u x || (linked net u x && not (nat_eq v x))) xs (λ x at h. one (linked net u x) x h (near x h)) in
+    let both = count_or (nat_eq u) (λ x. linked net u x && not (nat_eq v x)) xs in
+    let other = one_count (λ x. linked net u x && nat_eq v x) xs v there (and_from (linked net u v) (nat_eq v v) near_v (eq-eqb v v refl)) in
+    omega (arith, within, both, once u xs (names_without_repeats net), count_split (linked net u) (nat_eq v) xs, other, linked_few net u)
   where
-    place : ℕ → ℕ
-    place x = cond (nat_eq x u) v x
-
-    at_u : (x : ℕ) → x ≡ u → place x ≡ v
-    at_u x same = cond-true (nat_eq x u) v x (eq-eqb x u same)
-
-    elsewhere : (x : ℕ) → (x ≡ u → ⊥) → place x ≡ x
-    elsewhere x apart = cond-false (nat_eq x u) v x (ne_eqb x u apart)
-
-    never : (x : ℕ) → p x ≡ true → v ≡ x → ⊥
-    never x h same = true≢false (sym h ∙ ap p (sym same) ∙ out)
+    one : (l : Bool) (x : ℕ) → p x ≡ true → (x ≡ u) ⊎ (l ≡ true) → (nat_eq u x || (l && not (nat_eq v x))) ≡ true
+    one l x h at = grind arith
 
 -- ---- who is in reach
 
@@ -114,14 +65,17 @@ nobody_few s event none calm =
 never : {b : Bool} → b ≡ false → b ≡ true → ⊥
 never e h = true≢false (sym h ∙ e)
 
+-- if a node's partner is parted from it, and none is hit, the reach is within their neighbours
+pair_few : (s : State) (event : Event) (p : ℕ) → IsState s → pointer s (main_node event) ≡ Some p → ((x : ℕ) → is_hit s event x ≡ true → ⊥) → count_by (is_in_reach s event) (names s.network) ≤ degree s.network (main_node event) + degree s.network p
+pair_few s event p good at none =
+    either_few s.network (is_in_reach s event) (main_node event) p
+    (beside_pair s event (main_node event) p (pointer_linked s (main_node event) p good at) none
+    (λ x h. ⊎_elim inl (λ same. inr (same_Some x p (sym same ∙ at))) (parted_near s event x h).1))
+
 -- ---- each event
 
 unlink_few : (s : State) (a b : ℕ) → IsState s → (t : Bool) → is_mutual s a b ≡ t → count_by (is_in_reach s (Unlink a b)) (names s.network) ≤ cond t (degree s.network a + degree s.network b) 0
-unlink_few s a b good true pair =
-    let at = mutual_is s a b pair in
-    either_few s.network (is_in_reach s (Unlink a b)) a b
-    (beside_pair s (Unlink a b) a b (pointer_linked s a b good at.0) (λ x. never refl)
-    (λ x h. ⊎_elim (λ low. inl (eqb-true x a low)) (λ high. inr (eqb-true x b high)) (or_cases (nat_eq x a) (nat_eq x b) (and_parts (is_mutual s a b) (nat_eq x a || nat_eq x b) h).1)))
+unlink_few s a b good true pair = pair_few s (Unlink a b) b good (mutual_is s a b pair).0 (λ x. never refl)
 unlink_few s a b good false pair =
     nobody_few s (Unlink a b) (λ x h. never pair (and_parts (is_mutual s a b) (nat_eq x a || nat_eq x b) h).0) (λ x. never refl)
 
@@ -137,13 +91,7 @@ point_few : (s : State) (v : ℕ) (target : Option ℕ) → IsState s → (t : B
 point_few s v target good true is =
     let pair = married_some s v is in
     let size = ap (degree_at s.network) pair.1 in
-    let few = either_few s.network (is_in_reach s (Point v target)) v pair.0
-    (beside_pair s (Point v target) v pair.0 (pointer_linked s v pair.0 good pair.1)
-    (λ x h. true≢false (sym is ∙ (point_hit s v target x h).1))
-    (λ x h. ⊎_elim
-    (λ pairing. inr (same_Some x pair.0 (sym (mutual_is s v x pairing).0 ∙ pair.1)))
-    (λ own. inl (eqb-true x v (and_parts (nat_eq x v) (married s v) own).0))
-    (or_cases (is_mutual s v x) (nat_eq x v && married s v) (point_parted s v target x h)))) in
+    let few = pair_few s (Point v target) pair.0 good pair.1 (λ x h. true≢false (sym is ∙ (point_hit s v target x h).1)) in
     omega (arith, size, few)
 point_few s v target good false alone =
     one_few s.network (is_in_reach s (Point v target)) v (λ x h. (point_hit s v target x (only_hit s (Point v target) none x h)).0)
@@ -156,12 +104,12 @@ leave_few s v good true is =
     let pair = married_some s v is in
     let size = ap (degree_at s.network) pair.1 in
     let near = pointer_linked s v pair.0 good pair.1 in
-    let few = own_few s.network (is_in_reach s (Leave v)) pair.0 v (kept (linked s.network pair.0) v (names s.network) (linked_back s.network pair.0 v ∙ near) (in_names s.network v (linked_present s.network v pair.0 good.is_network near)))
+    let few = own_few s.network (is_in_reach s (Leave v)) pair.0 v (in_names s.network v (linked_present s.network v pair.0 good.is_network near)) (linked_back s.network pair.0 v ∙ near)
     (false_from_ne_true (is_in_reach s (Leave v) v) (out pair.0))
-    (λ x h there. ⊎_elim (λ hit. absurd (true≢false (sym hit)))
+    (λ x h. ⊎_elim (λ hit. absurd (true≢false (sym hit)))
     (λ more. ⊎_elim
     (λ parted. inl (partner_is pair.0 pair.1 x parted))
-    (λ beside. inr (kept (linked s.network pair.0) x (names s.network) (subst (λ y. IsTrue (linked s.network y x)) (partner_is pair.0 pair.1 beside.1.0 beside.1.2) beside.1.1) there))
+    (λ beside. inr (subst (λ y. IsTrue (linked s.network y x)) (partner_is pair.0 pair.1 beside.1.0 beside.1.2) beside.1.1))
     more)
     (reach_cases s (Leave v) x h)) in
     omega (arith, size, few)

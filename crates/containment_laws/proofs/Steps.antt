@@ -1,5 +1,5 @@
 -- A step breaks no pair, and leaves nodes at rest at rest.
-use Rattle.containment_laws.proofs.Prelude.{◌≡◌, ℕ, Bool, true, false, List, None, Some, IsTrue, ◌∙◌, subst, ⊎_elim, none-some, same_Some, Update, Marry, Seduce, Abandon, Item, Moved, linked, State, IsState, pointer, flag, married, RuleTable, IsStep, married_some, married_from, null_unmarried, is_mover_in, Deed, idles, updates, marries, seduces, abandons, IsInside, IsDone, step_done, AsksForWork, arith}
+use Rattle.containment_laws.proofs.Prelude.{◌≡◌, ℕ, Bool, true, false, List, None, Some, IsTrue, ◌∙◌, subst, none-some, same_Some, Update, Marry, Seduce, Abandon, Item, Moved, linked, State, IsState, pointer, flag, married, RuleTable, IsStep, married_some, married_from, null_unmarried, is_mover_in, Deed, idles, updates, marries, seduces, abandons, IsInside, IsDone, step_done, AsksForWork, arith}
 use Rattle.containment_laws.proofs.AtRest.{IsAtRest, rest_near}
 use Rattle.containment_laws.proofs.IdleNodes.{rest_idles}
 

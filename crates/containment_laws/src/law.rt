@@ -21,6 +21,7 @@ pub fn stable_is_rest()
 {}
 
 /// No rule is enabled at a node at rest.
+#[tactic(auto, using(crate::proofs::Proved::rest_is_idle, crate::proofs::Proved::contains_from))]
 pub fn rest_is_idle()
     ensures { (t : RuleTable) → IsTable t → AsksForWork t → RestIsIdle t }
 {}
@@ -45,6 +46,7 @@ pub fn runs_leave_rest()
 {}
 
 /// Between two disturbances only nodes that were not at rest at the start move.
+#[tactic(auto, using(crate::proofs::Proved::movers_were_restless, crate::proofs::Proved::contains_from))]
 pub fn movers_were_restless()
     ensures { (t : RuleTable) → IsTable t → AsksForWork t → MoversWereRestless t }
 {}
@@ -73,6 +75,7 @@ pub fn one_is_contained()
 {}
 
 /// After one disturbance of a stable network each node that moves is in the disturbance's reach.
+#[tactic(auto, using(crate::proofs::Proved::movers_were_reached, crate::proofs::Proved::contains_from))]
 pub fn movers_were_reached()
     ensures { (t : RuleTable) → IsTable t → AsksForWork t → MoversWereReached t }
 {}
@@ -92,21 +95,25 @@ pub fn all_are_contained()
 /// Each node that moves was not at rest at the start, or is in the reach of a disturbance.
 ///
 /// The reach of a disturbance is determined in the state before the disturbance.
+#[tactic(auto, using(crate::proofs::Proved::movers_are_accounted_for, crate::proofs::Proved::contains_from))]
 pub fn movers_are_accounted_for()
     ensures { (t : RuleTable) → IsTable t → AsksForWork t → MoversAreAccountedFor t }
 {}
 
 /// A run loses at most one pair of its start for each disturbance that parts a pair.
+#[tactic(auto, using(crate::proofs::Proved::pairs_are_accounted_for, crate::proofs::Proved::contains_from))]
 pub fn pairs_are_accounted_for()
     ensures { (t : RuleTable) → IsTable t → AsksForWork t → PairsAreAccountedFor t }
 {}
 
 /// The number of pairs falls by at most the number of disturbances that part a pair.
+#[tactic(auto, using(crate::proofs::Proved::pairs_are_left, crate::proofs::Proved::contains_from))]
 pub fn pairs_are_left()
     ensures { (t : RuleTable) → IsTable t → AsksForWork t → PairsAreLeft t }
 {}
 
 /// The containment radius is 2: the reach of an event is within two links of the nodes it names.
+#[tactic(auto, using(crate::proofs::NearReach::reach_is_near))]
 pub fn reach_is_near()
     ensures { ReachIsNear }
 {}
@@ -114,6 +121,7 @@ pub fn reach_is_near()
 /// In a stable network, after the disturbance, no node in the reach is at rest. Not each may move.
 ///
 /// One exception, if flags are not used: a parted node whose neighbours were all married may be at rest.
+#[tactic(auto, using(crate::proofs::Proved::reach_is_exact, crate::proofs::Proved::contains_from))]
 pub fn reach_is_exact()
     ensures { (t : RuleTable) → IsTable t → AsksForWork t → ReachIsExact t }
 {}
@@ -121,6 +129,7 @@ pub fn reach_is_exact()
 /// The number of nodes in the reach is at most 2, or at most a sum of two degrees.
 ///
 /// The bound, `reach_size`, does not depend on the size of the network.
+#[tactic(auto, using(crate::proofs::ReachSize::reach_is_small))]
 pub fn reach_is_small()
     ensures { ReachIsSmall }
 {}

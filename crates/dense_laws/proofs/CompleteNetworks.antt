@@ -2,8 +2,8 @@
 use Rattle.dense_laws.proofs.Prelude.{◌≡◌, ℕ, zero, suc, ◌+◌, ◌*◌, ◌<◌, ◌≤◌, nat_eq, false, cond, replicate, Option, None, Some, IsTrue, refl, sym, ap, ◌∙◌, subst, ⊎_elim, arith, range_with_len, eq_by_cmp, and_from, or_left, cases_eq, cases_lt, true≢false, le-leb, eq-eqb, ne_eqb, eq_by_cmp_equiv, length-replicate, get_or_past, length-map-range_with_len, get_or-map-range_with_len, length-range_with_len, length-filter, count_by-le-length, none-some, same_Some, Network, IsNetwork, pair_cmp, edge, edgeless, linked, node_count, present, with_edge, State, IsState, pointer, opening, after_link, pair_total, contains-insert, still_inserted, edgeless_is_network, with_edge_is_network, blank_flag, opening_is_state, link_keeps, linked_back, present_range, if_some_from, sum_le, count_all, range_bounds, HasLongRun}
 use Rattle.std.proofs.Common.{map as list_map}
 use Rattle.std.specs.FinMap as map
-use Rattle.dense_laws.proofs.Plays.{IsLong}
-use Rattle.dense_laws.proofs.Schedule.{IsComplete, from_cycle, from_idle_two}
+use Rattle.dense_laws.proofs.Games.{IsLong, Long, long_game}
+use Rattle.dense_laws.proofs.Schedule.{IsComplete, IsCycle, from_cycle, from_null_two}
 
 -- v is linked to 1 .. j
 abbrev joined : Network → ℕ → ℕ → Network
@@ -11,7 +11,7 @@ joined net v zero = net
 joined net v (suc j) = with_edge (joined net v j) (suc j) v
 
 -- of n nodes each two of the first v are linked
-abbrev up_to : ℕ → ℕ → Network
+abbrev pub up_to : ℕ → ℕ → Network
 up_to n zero = edgeless n
 up_to n (suc v) = joined (up_to n v) (suc v) v
 
@@ -48,7 +48,7 @@ up_to_present : (n v u : ℕ) → present (up_to n v) u ≡ present (edgeless n)
 up_to_present n zero u = refl
 up_to_present n (suc v) u = joined_present (up_to n v) (suc v) v u ∙ up_to_present n v u
 
-up_to_good : (n v : ℕ) → v ≤ n → IsNetwork (up_to n v)
+pub up_to_good : (n v : ℕ) → v ≤ n → IsNetwork (up_to n v)
 up_to_good n zero le = edgeless_is_network n n
 up_to_good n (suc v) le =
     joined_good (up_to n v) (suc v) v (up_to_good n v (omega (arith, le)))
@@ -75,21 +75,21 @@ up_to_is_complete n = record {
 }
 
 -- all n are there
-complete_count : (net : Network) (n : ℕ) → net.size ≡ n → IsComplete net n → node_count net ≡ n
+pub complete_count : (net : Network) (n : ℕ) → net.size ≡ n → IsComplete net n → node_count net ≡ n
 complete_count net n size complete = grind (arith, length-filter, count_by-le-length, count_all, sum_le, range_bounds, length-range_with_len)
 
 -- ---- the cycle
 
-next_of : ℕ → ℕ → Option ℕ
+pub next_of : ℕ → ℕ → Option ℕ
 next_of n v = cond (nat_eq v 0) None (cond (nat_eq v n) (Some 1) (Some (v + 1)))
 
-abbrev cycle : ℕ → State
+abbrev pub cycle : ℕ → State
 cycle n = record {
   network = up_to n n;
   registers = record { pointers = list_map (next_of n) (range_with_len 0 (n + 1)); flags = replicate (n + 1) false };
 }
 
-up_to_size : (n v : ℕ) → (up_to n v).size ≡ n
+pub up_to_size : (n v : ℕ) → (up_to n v).size ≡ n
 up_to_size n zero = refl
 up_to_size n (suc v) = same (up_to n v) (suc v) v ∙ up_to_size n v
   where
@@ -103,14 +103,14 @@ cycle_within n v le = get_or-map-range_with_len (next_of n) 0 (n + 1) v v None (
 cycle_past : (n v : ℕ) → n < v → pointer (cycle n) v ≡ None
 cycle_past n v past = get_or_past (list_map (next_of n) (range_with_len 0 (n + 1))) v None (let len = length-map-range_with_len (next_of n) 0 (n + 1) in omega (arith, len, past))
 
-cycle_last : (n : ℕ) → 1 ≤ n → pointer (cycle n) n ≡ Some 1
+pub cycle_last : (n : ℕ) → 1 ≤ n → pointer (cycle n) n ≡ Some 1
 unfolding next_of
 cycle_last n some =
     cycle_within n n (omega arith)
     ∙ ap (λ b. cond b None (cond (nat_eq n n) (Some 1) (Some (n + 1)))) (ne_eqb n 0 (λ e. absurd (omega (arith, e, some))))
     ∙ ap (λ b. cond b (Some 1) (Some (n + 1))) (eq-eqb n n refl)
 
-cycle_rest : (n v : ℕ) → 1 ≤ v → v < n → pointer (cycle n) v ≡ Some (v + 1)
+pub cycle_rest : (n v : ℕ) → 1 ≤ v → v < n → pointer (cycle n) v ≡ Some (v + 1)
 unfolding next_of
 cycle_rest n v low high =
     cycle_within n v (omega (arith, high))
@@ -137,13 +137,21 @@ cycle_near n two v w at =
     near : (v w : ℕ) → 1 ≤ v → v ≤ n → 1 ≤ w → w ≤ n → (v ≡ w → ⊥) → IsTrue (linked (up_to n n) v w)
     near = (up_to_is_complete n).near
 
-cycle_is_state : (n : ℕ) → 2 ≤ n → IsState (cycle n)
+pub cycle_is_state : (n : ℕ) → 2 ≤ n → IsState (cycle n)
 cycle_is_state n two = record {
   is_network = up_to_good n n (omega arith);
   pointers_len = let len = length-map-range_with_len (next_of n) 0 (n + 1) in let size = up_to_size n n in omega (arith, len, size);
   flags_len = let len = length-replicate (n + 1) false in let size = up_to_size n n in omega (arith, len, size);
   neighbourly = λ v. if_some_from (pointer (cycle n) v) (λ w. IsTrue (linked (up_to n n) v w)) (λ w at. cycle_near n two v w at);
   flagged_present = λ v h. absurd (true≢false (sym h ∙ blank_flag (n + 1) v));
+}
+
+pub cycle_is_cycle : (n : ℕ) → 2 ≤ n → IsCycle n (cycle n)
+cycle_is_cycle n two = record {
+  good = cycle_is_state n two;
+  complete = up_to_is_complete n;
+  last = cycle_last n (omega (arith, two));
+  rest = λ v low high. cycle_rest n v low high;
 }
 
 -- ---- the bound is reached
@@ -165,18 +173,14 @@ by_cycle k =
     reached_from (k + 3) (cycle (k + 3)) (k * k + 8 * k + 11) (cycle_is_state (k + 3) (omega arith))
     (complete_count (up_to (k + 3) (k + 3)) (k + 3) (up_to_size (k + 3) (k + 3)) (up_to_is_complete (k + 3)))
     (omega arith)
-    (from_cycle k 0 (cycle (k + 3)) (record {
-      on = record { good = cycle_is_state (k + 3) (omega arith); complete = up_to_is_complete (k + 3) };
-      last = cycle_last (k + 3) (omega arith);
-      rest = λ v low high. cycle_rest (k + 3) v low high;
-    }))
+    (from_cycle Long long_game k 0 (cycle (k + 3)) (cycle_is_cycle (k + 3) (omega arith)))
 
 by_two : HasLongRun 2
 by_two =
     reached_from 2 (after_link (opening 2) 1 2) 4 good
     (complete_count (up_to 2 2) 2 refl (up_to_is_complete 2))
     (omega arith)
-    (from_idle_two 0 (after_link (opening 2) 1 2) (record { good = good; complete = up_to_is_complete 2 }) refl refl)
+    (from_null_two Long long_game 0 (after_link (opening 2) 1 2) good (up_to_is_complete 2) refl refl)
   where
     good : IsState (after_link (opening 2) 1 2)
     good = link_keeps (opening 2) 1 2 (opening_is_state 2 2) (edgeless_has 2 1 (omega arith) (omega arith)) (edgeless_has 2 2 (omega arith) (omega arith)) (λ e. absurd (omega (arith, e)))

@@ -8,6 +8,9 @@ pub mod Falls
 pub mod Runs
 pub mod SilentRuns
 pub mod Plays
+pub mod HighPairs
+pub mod HsuHuangPlays
+pub mod Games
 pub mod Schedule
 pub mod CompleteNetworks
 pub mod Bound

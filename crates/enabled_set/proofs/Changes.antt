@@ -33,7 +33,7 @@ pub total_some : (bits : List Bool) (v : ℕ) → v < length bits → is_in bits
 total_some bits v there on = let t = tally_through (is_in bits) 0 v (length bits) on (omega arith) there in omega arith
 
 -- the bits of the changed words
-same_put : (bits : List Bool) (words : List ℕ) (v word : ℕ) (b : Bool) → v < length bits → v / 64 < length words → ((u : ℕ) → is_in bits u ≡ is_bit_on words u) → has_bit word (v % 64) ≡ b → ((i : ℕ) → i < 64 → i ≢ (v % 64) → has_bit word i ≡ has_bit (get_or words (v / 64) 0) i) → (u : ℕ) → is_in (set bits v b) u ≡ is_bit_on (set words (v / 64) word) u
+pub same_put : (bits : List Bool) (words : List ℕ) (v word : ℕ) (b : Bool) → v < length bits → v / 64 < length words → ((u : ℕ) → is_in bits u ≡ is_bit_on words u) → has_bit word (v % 64) ≡ b → ((i : ℕ) → i < 64 → i ≢ (v % 64) → has_bit word i ≡ has_bit (get_or words (v / 64) 0) i) → (u : ℕ) → is_in (set bits v b) u ≡ is_bit_on (set words (v / 64) word) u
 same_put bits words v word b there room same here others u = grind (arith, on_here, put_here, same_there, put_there)
 
 -- one member more or less if its counts were changed by one; the lists count the right places

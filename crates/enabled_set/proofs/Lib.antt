@@ -12,3 +12,5 @@ pub mod Passes
 pub mod Nth
 pub mod Sums
 pub mod MarkChanges
+pub mod PlainBits
+pub mod NotedNames

@@ -2,7 +2,8 @@
 //!
 //! An `EnabledSet` is the set of a network's enabled nodes, or of its present nodes. Daemons and injectors
 //! get the k-th member without a scan of all names. `Marks` are the nodes of a choice, or names to be looked
-//! at again.
+//! at again. A `NameBits` is a copy of an `EnabledSet` that only loses members, 64 names at a time if need be.
+//! `Removals` lists names that left a set.
 //!
 //! Only `new` and `to_list` take memory.
 //!
@@ -14,9 +15,14 @@
 #![tactic(auto)]
 
 mod marks;
+mod name_bits;
+mod removals;
 mod scan;
 mod set;
 mod spot;
+mod words;
 
 pub use marks::Marks;
+pub use name_bits::NameBits;
+pub use removals::Removals;
 pub use set::EnabledSet;

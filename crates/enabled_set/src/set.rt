@@ -1,8 +1,10 @@
 //! The set of names.
 
-ghost use Rattle.std.specs.Prelude.{◌≡◌, ◌+◌, ◌*◌, ◌<◌, ◌≤◌, true, false, length, replicate, slice_get, slice_set, IfOk};
-ghost use Rattle.enabled_set.specs.Members.{is_in, members};
+ghost use Rattle.std.specs.Prelude.{◌≡◌, ℕ, ◌+◌, ◌*◌, ◌<◌, ◌≤◌, true, false, length, replicate, slice_get, slice_index, slice_set, IfOk};
+ghost use Rattle.enabled_set.specs.Members.{is_bit_on, is_in, members};
+ghost use Rattle.enabled_set.specs.RemovedNames.{KeepsNotes};
 
+use crate::removals::Removals;
 use crate::scan::{look, pass_in_8, pass_in_16, pass_words, push_word};
 use crate::spot::{bit_is_set, find_bit, with_bit, without_bit};
 use rule_machine::{Node, Want};
@@ -99,6 +101,24 @@ impl EnabledSet {
         Ok(list)
     }
 
+    /// The words, and bits of no name after them.
+    #[inline(always)]
+    pub(crate) fn words(&self) -> &[u64]
+        ensures same { (v : ℕ) → is_in self.now v ≡ is_bit_on result.now v }
+        ensures few { length self.now ≤ 65536 }
+    {
+        &self.words
+    }
+
+    /// How many members each block of 4,096 names has.
+    #[inline(always)]
+    pub(crate) fn lots(&self) -> &[u16]
+        ensures room { length result.now ≡ 16 }
+        ensures counted { (lot v : ℕ) → slice_index result.now lot ≡ 0 → 4096 * lot ≤ v → v < 4096 * lot + 4096 → is_in self.now v ≡ false }
+    {
+        &self.by_4096
+    }
+
     /// Inserts a name; the name may be a member already. At most four writes.
     pub fn insert(&mut self, v: Node)
         requires { v < length self.old }
@@ -128,5 +148,16 @@ impl EnabledSet {
         self.by_512[place / 512] -= 1;
         self.by_4096[place / 4096] -= 1;
         self.total -= 1;
+    }
+
+    /// Removes a name and, if it was a member, notes it. At most six writes.
+    pub fn remove_noted(&mut self, v: Node, removals: &mut Removals)
+        ensures set { self.new ≡ slice_set self.old v false }
+        ensures noted { KeepsNotes self.old removals.old self.new removals.new }
+    {
+        if self.contains(v) {
+            self.remove(v);
+            removals.note(v);
+        }
     }
 }

@@ -1,6 +1,6 @@
 //! Bits of a 64-bit word.
 
-ghost use Rattle.std.specs.Prelude.{◌≡◌, ◌≢◌, ℕ, ◌+◌, ◌*◌, ◌<◌, ◌≤◌, true, false, MatchOption};
+ghost use Rattle.std.specs.Prelude.{◌≡◌, ◌≢◌, ℕ, ◌+◌, ◌*◌, ◌<◌, ◌≤◌, ◌&&◌, ◌||◌, not, true, false, MatchOption};
 ghost use Rattle.enabled_set.specs.Members.{has_bit};
 ghost use Rattle.enabled_set.specs.Counts.{tally};
 

@@ -1,5 +1,5 @@
 -- The first line at which a text departs from the lines of a base.
-use Rattle.entry_grammar.proofs.Prelude.{◌≡◌, ℕ, zero, suc, ◌+◌, ◌<◌, ◌≤◌, List, [], ◌∷◌, ◌++◌, length, length-append, map, refl, sym, ap, ap₂, subst, ◌∙◌, append_assoc, arith, Result, Ok, Err, IfErr, IsErrAnd, AllByRecursion, flat_map-append, length-map, lines_with_ends, node_record_text, link_text, BaseLine, Base, Place, Link, IsOrderedPair, IsBaseLine, base_line_text, AreCounts, Starts, IsEdgeAbove, NodesRise, EdgesRise, IsPlace, node_key, place_line, EdgesFollow, NodesFollow, MayFollow, BreaksAt, numbers_text, last_key, NodesRead, NodesBreak, EdgesBreak}
+use Rattle.entry_grammar.proofs.Prelude.{◌≡◌, ℕ, zero, suc, ◌+◌, ◌<◌, ◌≤◌, List, [], ◌∷◌, ◌++◌, length, length-append, map, refl, sym, ap, ap₂, subst, ◌∙◌, append_assoc, arith, Result, Ok, Err, IfErr, IsErrAnd, AllByRecursion, flat_map-append, length-map, lines_with_ends, node_record_text, link_text, BaseLine, BaseNumbers, Base, Place, Link, IsOrderedPair, IsBaseLine, base_line_text, AreCounts, Starts, IsEdgeAbove, NodesRise, EdgesRise, IsPlace, node_key, place_line, EdgesFollow, NodesFollow, MayFollow, BreaksAt, numbers_text, last_key, NodesRead, NodesBreak, EdgesBreak}
 use Rattle.rule_machine.specs.declared.base.NodeRecord.{NodeRecord as PlaceKept}
 
 abbrev pub place_lines : List PlaceKept → List BaseLine
@@ -80,12 +80,12 @@ past_nodes (suc left) edges last (place ∷ places) lines h f = past_nodes left 
 
 -- ---- the first line that is not as it has to be
 
-no_first : (bytes : List ℕ) → ((q : ℕ × ℕ × ℕ × ℕ) (more : List ℕ) → Starts AreCounts numbers_text bytes q more → ⊥) → (line : BaseLine) (more : List ℕ) → IsBaseLine line → MayFollow (line ∷ []) → bytes ≡ base_line_text line ++ 10 ∷ more → ⊥
-no_first bytes none (Base number spent nodes edges) more f m e = none (number, spent, nodes, edges) more (record { fits = f; is = e })
+no_first : (bytes : List ℕ) → ((q : BaseNumbers) (more : List ℕ) → Starts AreCounts numbers_text bytes q more → ⊥) → (line : BaseLine) (more : List ℕ) → IsBaseLine line → MayFollow (line ∷ []) → bytes ≡ base_line_text line ++ 10 ∷ more → ⊥
+no_first bytes none (Base q) more f m e = none q more (record { fits = f; is = e })
 no_first bytes none line more f m e = m
 
 -- it is that of the numbers
-pub first_breaks : (bytes : List ℕ) → ((q : ℕ × ℕ × ℕ × ℕ) (more : List ℕ) → Starts AreCounts numbers_text bytes q more → ⊥) → BreaksAt bytes 1
+pub first_breaks : (bytes : List ℕ) → ((q : BaseNumbers) (more : List ℕ) → Starts AreCounts numbers_text bytes q more → ⊥) → BreaksAt bytes 1
 first_breaks bytes none = record {
   lines = [];
   rest = bytes;
@@ -98,52 +98,52 @@ first_breaks bytes none = record {
 }
 
 -- the text of the numbers, and then of other lines
-text_behind : (bytes : List ℕ) (q : ℕ × ℕ × ℕ × ℕ) (rest lines more : List ℕ) → Starts AreCounts numbers_text bytes q rest → rest ≡ lines ++ more → bytes ≡ (numbers_text q ++ 10 ∷ []) ++ lines ++ more
+text_behind : (bytes : List ℕ) (q : BaseNumbers) (rest lines more : List ℕ) → Starts AreCounts numbers_text bytes q rest → rest ≡ lines ++ more → bytes ≡ (numbers_text q ++ 10 ∷ []) ++ lines ++ more
 text_behind bytes q rest lines more h e =
     h.is ∙ ap (λ (z : List ℕ). numbers_text q ++ 10 ∷ z) e
     ∙ sym (append_assoc (numbers_text q ++ 10 ∷ []) lines more ∙ append_assoc (numbers_text q) (10 ∷ []) (lines ++ more))
 
 -- it is a node's
-pub node_breaks : (bytes : List ℕ) (q : ℕ × ℕ × ℕ × ℕ) (rest : List ℕ) (k : ℕ) → Starts AreCounts numbers_text bytes q rest → NodesBreak rest q.2 k → BreaksAt bytes k
+pub node_breaks : (bytes : List ℕ) (q : BaseNumbers) (rest : List ℕ) (k : ℕ) → Starts AreCounts numbers_text bytes q rest → NodesBreak rest q.nodes k → BreaksAt bytes k
 node_breaks bytes q rest k h b =
     let few = b.few in
     let many : length (place_lines b.items) ≡ length b.items = length-map b.items place_line in
     record {
-      lines = Base q.0 q.1 q.2 q.3 ∷ place_lines b.items;
+      lines = Base q ∷ place_lines b.items;
       rest = b.rest;
       is = text_behind bytes q rest (lines_with_ends base_line_text (place_lines b.items)) b.rest h (b.read.is ∙ ap (λ (z : List ℕ). z ++ b.rest) (sym (ended_places b.items)));
       fit = (h.fits, fit_places b.items b.read.fit);
-      follow = nodes_follow q.2 q.3 0 b.items (omega (arith, few)) b.read.rise;
+      follow = nodes_follow q.nodes q.edges 0 b.items (omega (arith, few)) b.read.rise;
       short = omega (arith, few, many);
       number = b.number ∙ omega (arith, many);
       stops = λ line more f m e.
-          let next = node_comes q.2 q.3 0 b.items line few m in
+          let next = node_comes q.nodes q.edges 0 b.items line few m in
           b.stops next.0 more next.2 (record { fits = subst IsBaseLine next.1 f; is = e ∙ ap (λ (z : BaseLine). base_line_text z ++ 10 ∷ more) next.1 });
     }
 
 -- it is an edge's
-pub edge_breaks : (bytes : List ℕ) (q : ℕ × ℕ × ℕ × ℕ) (rest : List ℕ) (places : List PlaceKept) (left : List ℕ) (k : ℕ) → Starts AreCounts numbers_text bytes q rest → NodesRead rest places left → length places ≡ q.2 → EdgesBreak left q.3 (q.2 + 2) k → BreaksAt bytes k
+pub edge_breaks : (bytes : List ℕ) (q : BaseNumbers) (rest : List ℕ) (places : List PlaceKept) (left : List ℕ) (k : ℕ) → Starts AreCounts numbers_text bytes q rest → NodesRead rest places left → length places ≡ q.nodes → EdgesBreak left q.edges (q.nodes + 2) k → BreaksAt bytes k
 edge_breaks bytes q rest places left k h read all b =
     let few = b.few in
     let nodes = place_lines places in
     let edges = edge_lines b.items in
-    let many : length (nodes ++ edges) ≡ q.2 + length b.items = length-append nodes edges ∙ ap₂ (λ (m n : ℕ). m + n) (length-map places place_line ∙ all) (length-map b.items (λ edge. Link edge)) in
+    let many : length (nodes ++ edges) ≡ q.nodes + length b.items = length-append nodes edges ∙ ap₂ (λ (m n : ℕ). m + n) (length-map places place_line ∙ all) (length-map b.items (λ edge. Link edge)) in
     let texts : lines_with_ends base_line_text (nodes ++ edges) ≡ lines_with_ends node_record_text places ++ lines_with_ends link_text b.items =
     flat_map-append (λ line. base_line_text line ++ 10 ∷ []) nodes edges ∙ ap₂ (λ (x y : List ℕ). x ++ y) (ended_places places) (ended_edges b.items)
     in
     record {
-      lines = Base q.0 q.1 q.2 q.3 ∷ (nodes ++ edges);
+      lines = Base q ∷ (nodes ++ edges);
       rest = b.rest;
       is =
           text_behind bytes q rest (lines_with_ends base_line_text (nodes ++ edges)) b.rest h
           (read.is ∙ ap (λ (z : List ℕ). lines_with_ends node_record_text places ++ z) b.read.is ∙ sym (append_assoc (lines_with_ends node_record_text places) (lines_with_ends link_text b.items) b.rest) ∙ ap (λ (z : List ℕ). z ++ b.rest) (sym texts));
       fit = (h.fits, fit_both nodes edges (fit_places places read.fit) (fit_edges b.items b.read.fit));
-      follow = all_follow q.2 q.3 0 places edges all read.rise (edges_follow q.3 (0, 0) b.items (omega (arith, few)) b.read.rise);
+      follow = all_follow q.nodes q.edges 0 places edges all read.rise (edges_follow q.edges (0, 0) b.items (omega (arith, few)) b.read.rise);
       short = omega (arith, few, many);
       number = b.number ∙ omega (arith, many);
       stops = λ line more f m e.
-          let behind = past_nodes q.2 q.3 0 places (edges ++ line ∷ []) all (subst (λ (z : List BaseLine). NodesFollow q.2 q.3 0 z) (append_assoc nodes edges (line ∷ [])) m) in
-          let next = edge_comes q.3 (0, 0) b.items line few behind in
+          let behind = past_nodes q.nodes q.edges 0 places (edges ++ line ∷ []) all (subst (λ (z : List BaseLine). NodesFollow q.nodes q.edges 0 z) (append_assoc nodes edges (line ∷ [])) m) in
+          let next = edge_comes q.edges (0, 0) b.items line few behind in
           b.stops next.0 more next.2 (record { fits = subst IsBaseLine next.1 f; is = e ∙ ap (λ (z : BaseLine). base_line_text z ++ 10 ∷ more) next.1 });
     }
 

@@ -1,5 +1,5 @@
 -- The lines of a base.
-use Rattle.entry_grammar.proofs.Prelude.{◌≡◌, ℕ, ◌<◌, ◌≤◌, Bool, List, [], ◌∷◌, ◌++◌, None, Some, drop, get_or, refl, sym, ap, ◌∙◌, append_assoc, arith, codes, IfSome, IsInRange, append_cancel_left, RuleSet, NodeRecord, rules_word, number_text, IsName, bool_text, target_text, pair_text, field_text, joined_texts, base_fields, base_head, link_text, node_record_text, BaseLine, Head, Base, Place, Link, SpellsBaseLine, IsPlace, place_line, NoDigit, IsFree, CutAt, AreCounts, rules_text, registers_text, IsReadBack, Always, Undigited, alone, after_word, apart_by, bool_back, for_fewer, name_back, nothing_ends, number_back, target_back, through}
+use Rattle.entry_grammar.proofs.Prelude.{◌≡◌, ℕ, ◌<◌, ◌≤◌, Bool, List, [], ◌∷◌, ◌++◌, None, Some, drop, get_or, refl, sym, ap, ◌∙◌, append_assoc, arith, codes, IfSome, IsInRange, append_cancel_left, RuleSet, NodeRecord, rules_word, number_text, IsName, bool_text, target_text, pair_text, field_text, joined_texts, base_fields, base_head, link_text, node_record_text, BaseLine, BaseNumbers, Head, Base, Place, Link, SpellsBaseLine, IsPlace, place_line, NoDigit, IsFree, CutAt, AreCounts, rules_text, registers_text, IsReadBack, Always, Undigited, alone, after_word, apart_by, bool_back, for_fewer, name_back, nothing_ends, number_back, target_back, through}
 use Rattle.std.specs.Prelude.{Option}
 use Rattle.line_text.specs.ReplyText.{IsOrderedPair}
 use Rattle.entry_grammar.proofs.Free.{free_by, free_name}
@@ -38,9 +38,9 @@ no_place line rest e none (Place node target flag) h =
     none (node, target, flag) h.fits (append_cancel_left (codes "node ") rest (number_text node ++ codes " " ++ target_text target ++ codes " " ++ bool_text flag) (sym e ∙ h.is) ∙ place_is node target flag)
 no_place line rest e none found h = absurd (omega (arith, ap first_of (sym e ∙ h.is)))
 
-pub no_base : (line rest : List ℕ) → line ≡ codes "base " ++ rest → ((q : ℕ × ℕ × ℕ × ℕ) → AreCounts q → rest ≡ joined_texts field_text (base_fields q.0 q.1 q.2 q.3) → ⊥) → (found : BaseLine) → SpellsBaseLine line found → ⊥
-no_base line rest e none (Base number spent nodes edges) h =
-    none (number, spent, nodes, edges) h.fits (append_cancel_left (codes "base ") rest (joined_texts field_text (base_fields number spent nodes edges)) (sym e ∙ h.is))
+pub no_base : (line rest : List ℕ) → line ≡ codes "base " ++ rest → ((q : BaseNumbers) → AreCounts q → rest ≡ joined_texts field_text (base_fields q.number q.spent q.nodes q.edges) → ⊥) → (found : BaseLine) → SpellsBaseLine line found → ⊥
+no_base line rest e none (Base q) h =
+    none q h.fits (append_cancel_left (codes "base ") rest (joined_texts field_text (base_fields q.number q.spent q.nodes q.edges)) (sym e ∙ h.is))
 no_base line rest e none found h = absurd (omega (arith, ap first_of (sym e ∙ h.is)))
 
 pub no_head : (line rest : List ℕ) → line ≡ codes "matching2 " ++ rest → ((rules : RuleSet) (size : ℕ) → size ≤ 65535 → rest ≡ rules_text rules size → ⊥) → (found : BaseLine) → SpellsBaseLine line found → ⊥
@@ -51,7 +51,7 @@ no_head line rest e none found h = absurd (omega (arith, ap first_of (sym e ∙ 
 -- and one that begins as none does is of none
 pub no_line : (line : List ℕ) → ((rest : List ℕ) → line ≡ codes "node " ++ rest → ⊥) → ((rest : List ℕ) → line ≡ codes "edge " ++ rest → ⊥) → ((rest : List ℕ) → line ≡ codes "base " ++ rest → ⊥) → ((rest : List ℕ) → line ≡ codes "matching2 " ++ rest → ⊥) → (found : BaseLine) → SpellsBaseLine line found → ⊥
 no_line line node edge base head (Head rules size) h = head (rules_word rules ++ codes " " ++ number_text size) h.is
-no_line line node edge base head (Base number spent nodes edges) h = base (joined_texts field_text (base_fields number spent nodes edges)) h.is
+no_line line node edge base head (Base q) h = base (joined_texts field_text (base_fields q.number q.spent q.nodes q.edges)) h.is
 no_line line node edge base head (Place v target flag) h = node (number_text v ++ codes " " ++ target_text target ++ codes " " ++ bool_text flag) h.is
 no_line line node edge base head (Link e) h = edge (pair_text e.0 e.1) h.is
 
@@ -73,17 +73,19 @@ pub link_back : IsReadBack IsOrderedPair link_text Undigited
 link_back = for_fewer IsOrderedPair (after_word (codes "edge ") (apart_by 32 name_back name_back space_ends)) (λ p f. (f.0, f.1))
 
 abbrev base_from : List (List ℕ × ℕ) → BaseLine
-base_from fields = Base (number_at fields 0) (number_at fields 1) (number_at fields 2) (number_at fields 3)
+base_from fields = Base (record { number = number_at fields 0; spent = number_at fields 1; nodes = number_at fields 2; edges = number_at fields 3 })
 
 pub spells_base_line_once : (line : List ℕ) (a b : BaseLine) → SpellsBaseLine line a → SpellsBaseLine line b → a ≡ b
 spells_base_line_once line (Head r m) (Head q n) x y =
     ap (λ (p : RuleSet × ℕ). Head p.0 p.1) (alone head_back (λ p. nothing_ends) (r, m) (q, n) (tt, omega (arith, x.fits)) (tt, omega (arith, y.fits)) (sym x.is ∙ y.is))
-spells_base_line_once line (Base a b c d) (Base k l m n) x y =
+spells_base_line_once line (Base p) (Base q) x y =
     let f = x.fits in
     let g = y.fits in
+    let fields_p = base_fields p.number p.spent p.nodes p.edges in
+    let fields_q = base_fields q.number q.spent q.nodes q.edges in
     ap base_from
-    (fields_once (codes "", a) (codes "", k) (drop 1 (base_fields a b c d)) (drop 1 (base_fields k l m n)) (refl, (refl, (refl, (refl, tt)))) (f.0, (f.1, (f.2, (f.3, tt)))) (g.0, (g.1, (g.2, (g.3, tt))))
-    (append_cancel_left (codes "base ") (joined_texts field_text (base_fields a b c d)) (joined_texts field_text (base_fields k l m n)) (sym x.is ∙ y.is)))
+    (fields_once (codes "", p.number) (codes "", q.number) (drop 1 fields_p) (drop 1 fields_q) (refl, (refl, (refl, (refl, tt)))) (f.0, (f.1, (f.2, (f.3, tt)))) (g.0, (g.1, (g.2, (g.3, tt))))
+    (append_cancel_left (codes "base ") (joined_texts field_text fields_p) (joined_texts field_text fields_q) (sym x.is ∙ y.is)))
 spells_base_line_once line (Place m v f) (Place n w g) x y =
     ap place_line (alone record_back (λ p. tt) (record { node = m; target = v; flagged = f }) (record { node = n; target = w; flagged = g }) x.fits y.fits (sym x.is ∙ y.is))
 spells_base_line_once line (Link e) (Link f) x y = ap Link (alone link_back (λ p. nothing_ends) e f x.fits y.fits (sym x.is ∙ y.is))

@@ -1,5 +1,5 @@
 -- A text begins with the lines of one base at most, and they break off at one line at most.
-use Rattle.entry_grammar.proofs.Prelude.{◌≡◌, ℕ, zero, suc, ◌+◌, ◌⊎◌, inl, inr, List, [], ◌∷◌, ◌++◌, length, map, refl, sym, ap, ap₂, subst, ◌∙◌, append_assoc, arith, IsInRange, AllByRecursion, flat_map-append, length-map, append-nil, RuleSet, lines_with_ends, base_head, numbers_line, node_record_text, link_text, base_text, BaseLine, Base, Place, Link, IsBaseLine, base_line_text, IsShaped, base_lines, place_line, lines_of_base, EdgesFollow, NodesFollow, MayFollow, LacksLines, BreaksAt, lines_back}
+use Rattle.entry_grammar.proofs.Prelude.{◌≡◌, ℕ, zero, suc, ◌+◌, ◌⊎◌, inl, inr, List, [], ◌∷◌, ◌++◌, length, map, refl, sym, ap, ap₂, subst, ◌∙◌, append_assoc, arith, IsInRange, AllByRecursion, flat_map-append, length-map, append-nil, RuleSet, lines_with_ends, base_head, numbers_line, node_record_text, link_text, base_text, BaseLine, BaseNumbers, Base, Place, Link, IsBaseLine, base_line_text, IsShaped, base_lines, place_line, base_numbers, lines_of_base, EdgesFollow, NodesFollow, MayFollow, LacksLines, BreaksAt, lines_back}
 use Rattle.std.proofs.lemmas.List.{length-append}
 use Rattle.rule_machine.specs.declared.base.Base.{Base as BaseKept}
 use Rattle.entry_grammar.proofs.Free.{mark_once}
@@ -54,7 +54,7 @@ nodes_front (suc left) edges last (line ∷ some) more h = h
 
 follow_front : (some more : List BaseLine) → MayFollow (some ++ more) → MayFollow some
 follow_front [] more h = tt
-follow_front (Base number spent nodes edges ∷ some) more h = nodes_front nodes edges 0 some more h
+follow_front (Base q ∷ some) more h = nodes_front q.nodes q.edges 0 some more h
 follow_front (line ∷ some) more h = h
 
 -- ---- the lines of a base
@@ -86,7 +86,7 @@ abbrev tail_of : BaseKept → List BaseLine
 tail_of base = map place_line base.nodes ++ map (λ edge. Link edge) base.edges
 
 abbrev first_of : BaseKept → BaseLine
-first_of base = Base base.number base.spent (length base.nodes) (length base.edges)
+first_of base = Base (base_numbers base)
 
 tail_len : (base : BaseKept) → length (tail_of base) ≡ length base.nodes + length base.edges
 tail_len base =
@@ -95,13 +95,8 @@ tail_len base =
     let edges = length-map base.edges (λ edge. Link edge) in
     omega (arith, both, nodes, edges)
 
-base_is : (a b c d k l m n : ℕ) → Base a b c d ≡ Base k l m n → (a ≡ k) × (b ≡ l) × (c ≡ m) × (d ≡ n)
-base_is a b c d k l m n e =
-    let number : a ≡ k = cc in
-    let spent : b ≡ l = cc in
-    let nodes : c ≡ m = cc in
-    let edges : d ≡ n = cc in
-    (number, spent, nodes, edges)
+pub same_numbers : (p q : BaseNumbers) → Base p ≡ Base q → p ≡ q
+same_numbers p q e = cc
 
 -- the first line, and what follows it
 first_line_is : (base : BaseKept) (rest : List ℕ) → base_lines base ++ rest ≡ numbers_line base ++ 10 ∷ (lines_with_ends node_record_text base.nodes ++ (lines_with_ends link_text base.edges ++ rest))
@@ -117,10 +112,12 @@ base_once bytes a b x y f g d e =
     let cut = mark_once 10 (numbers_line a) (numbers_line b) (lines_with_ends node_record_text a.nodes ++ (lines_with_ends link_text a.edges ++ x)) (lines_with_ends node_record_text b.nodes ++ (lines_with_ends link_text b.edges ++ y)) (line_free (first_of a) fits_a) (line_free (first_of b) fits_b)
     (sym (first_line_is a x) ∙ sym d ∙ e ∙ first_line_is b y) in
     let line = spells_base_line_once (numbers_line a) (first_of a) (first_of b) (record { fits = fits_a; is = refl }) (record { fits = fits_b; is = cut.0 }) in
-    let four = base_is a.number a.spent (length a.nodes) (length a.edges) b.number b.spent (length b.nodes) (length b.edges) line in
-    let nodes = lines_back record_back (λ place r. tt) a.nodes b.nodes (lines_with_ends link_text a.edges ++ x) (lines_with_ends link_text b.edges ++ y) f.places g.places four.2 cut.1 in
-    let edges = lines_back link_back (λ edge r (h : IsInRange 48 57 10). omega (arith, h.0)) a.edges b.edges x y f.links g.links four.3 nodes.1 in
-    (λ i. record { number = four.0 i; spent = four.1 i; nodes = nodes.0 i; edges = edges.0 i }, edges.1)
+    let same = same_numbers (base_numbers a) (base_numbers b) line in
+    let node_count = ap (λ (q : BaseNumbers). q.nodes) same in
+    let edge_count = ap (λ (q : BaseNumbers). q.edges) same in
+    let nodes = lines_back record_back (λ place r. tt) a.nodes b.nodes (lines_with_ends link_text a.edges ++ x) (lines_with_ends link_text b.edges ++ y) f.places g.places node_count cut.1 in
+    let edges = lines_back link_back (λ edge r (h : IsInRange 48 57 10). omega (arith, h.0)) a.edges b.edges x y f.links g.links edge_count nodes.1 in
+    (λ i. record { number = (same i).number; spent = (same i).spent; nodes = nodes.0 i; edges = edges.0 i }, edges.1)
 
 -- ---- the break of lines
 

@@ -1,5 +1,5 @@
 -- The line of a base that bytes begin with.
-use Rattle.entry_grammar.proofs.Prelude.{◌≡◌, ℕ, List, ◌∷◌, ◌++◌, refl, ap, ◌∙◌, arith, codes, IsLine, RuleSet, Hh, Manne, rules_word, number_text, joined_texts, bool_text, target_text, pair_text, IsCountValue, field_text, base_fields, BaseLine, Head, Base, Place, Link, IsBaseLine, SpellsBaseLine, base_line_text, IsFree, CutAt, AreCounts, Starts}
+use Rattle.entry_grammar.proofs.Prelude.{◌≡◌, ℕ, List, ◌∷◌, ◌++◌, refl, ap, ◌∙◌, arith, codes, IsLine, RuleSet, Hh, Manne, rules_word, number_text, joined_texts, bool_text, target_text, pair_text, IsCountValue, field_text, base_fields, BaseLine, BaseNumbers, Head, Base, Place, Link, IsBaseLine, SpellsBaseLine, base_line_text, IsFree, CutAt, AreCounts, Starts}
 use Rattle.entry_grammar.proofs.Free.{free_by, cut_once, free_no_cut}
 use Rattle.entry_grammar.proofs.Marks.{feed, apart_lack, bool_lacks, both_lack, joined_lack, name_lacks, number_lacks, target_lacks}
 use Rattle.entry_grammar.proofs.BaseLines.{spells_base_line_once}
@@ -17,9 +17,9 @@ IsField field = IsFree 10 field.0 × IsCountValue field.1
 pub field_free : (field : List ℕ × ℕ) → IsField field → IsFree 10 (field_text field)
 field_free field f = both_lack feed field.0 (number_text field.1) f.0 (number_lacks feed field.1 (omega (arith, f.1)))
 
-fields_free : (number spent nodes edges : ℕ) → AreCounts (number, spent, nodes, edges) → IsFree 10 (joined_texts field_text (base_fields number spent nodes edges))
-fields_free number spent nodes edges f =
-    joined_lack feed IsField field_text field_free (base_fields number spent nodes edges)
+fields_free : (q : BaseNumbers) → AreCounts q → IsFree 10 (joined_texts field_text (base_fields q.number q.spent q.nodes q.edges))
+fields_free q f =
+    joined_lack feed IsField field_text field_free (base_fields q.number q.spent q.nodes q.edges)
     ((tt, f.0), ((free_by 10 (codes "spent=") refl, f.1), ((free_by 10 (codes "nodes=") refl, f.2), ((free_by 10 (codes "edges=") refl, f.3), tt))))
 
 pub line_free : (line : BaseLine) → IsBaseLine line → IsFree 10 (base_line_text line)
@@ -27,8 +27,8 @@ line_free (Head rules size) f =
     apart_lack feed (codes "matching2 " ++ rules_word rules) (number_text size)
     (both_lack feed (codes "matching2 ") (rules_word rules) (free_by 10 (codes "matching2 ") refl) (rules_free rules))
     (number_lacks feed size (omega (arith, f)))
-line_free (Base number spent nodes edges) f =
-    both_lack feed (codes "base ") (joined_texts field_text (base_fields number spent nodes edges)) (free_by 10 (codes "base ") refl) (fields_free number spent nodes edges f)
+line_free (Base q) f =
+    both_lack feed (codes "base ") (joined_texts field_text (base_fields q.number q.spent q.nodes q.edges)) (free_by 10 (codes "base ") refl) (fields_free q f)
 line_free (Place node target flag) f =
     apart_lack feed (codes "node " ++ number_text node ++ codes " " ++ target_text target) (bool_text flag)
     (apart_lack feed (codes "node " ++ number_text node) (target_text target)

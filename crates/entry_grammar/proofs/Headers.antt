@@ -1,5 +1,6 @@
 -- The parts of a header.
-use Rattle.entry_grammar.proofs.Prelude.{◌≡◌, ℕ, ◌<◌, ◌≤◌, Bool, true, false, cond, List, [], ◌∷◌, ◌++◌, get_or, refl, sym, ap, subst, ◌∙◌, append_assoc, arith, rules, codes, nat_lt, nat_tests, append_cancel_left, decimal_injective, RuleSet, Hh, Manne, rules_word, number_text, sizes_text, IsReadBack, Always, alone, AreSizes, SpellsHeader, IsFree, CutAt}
+use Rattle.entry_grammar.proofs.Prelude.{◌≡◌, ℕ, ◌<◌, ◌≤◌, Bool, true, false, cond, List, [], ◌∷◌, ◌++◌, Option, None, Some, get_or, refl, sym, ap, ap₂, subst, ◌∙◌, append_assoc, arith, rules, codes, nat_lt, nat_tests, append_cancel_left, decimal_injective, RuleSet, Hh, Manne, rules_word, number_text, sizes_text, IsReadBack, Always, alone, AreSizes, Header, SpellsHeader, ParsesAs, IsFree, CutAt}
+use Rattle.std.specs.Prelude.{MatchOption}
 use Rattle.entry_grammar.proofs.Free.{free_by, free_number, free_no_cut, cut_once}
 
 -- a rule set's word has no space
@@ -8,18 +9,21 @@ rules_free Hh = free_by 32 (rules_word Hh) refl
 rules_free Manne = free_by 32 (rules_word Manne) refl
 
 -- what follows the first word of a header
-pub header_words : (line words : List ℕ) (rules : RuleSet) (size count : ℕ) → line ≡ codes "matching " ++ words → SpellsHeader line rules size count → CutAt 32 words (rules_word rules) (sizes_text size count)
-header_words line words rules size count e h =
-    let sizes = sizes_text size count in
+parts_of : (rules : RuleSet) (sizes : List ℕ) → codes "matching " ++ rules_word rules ++ codes " " ++ sizes ≡ codes "matching " ++ (rules_word rules ++ 32 ∷ sizes)
+parts_of rules sizes = append_assoc (codes "matching " ++ rules_word rules) (32 ∷ []) sizes ∙ append_assoc (codes "matching ") (rules_word rules) (32 ∷ sizes)
+
+pub header_words : (line words : List ℕ) (header : Header) → line ≡ codes "matching " ++ words → SpellsHeader line header → CutAt 32 words (rules_word header.rules) (sizes_text header.names header.present)
+header_words line words header e h =
+    let sizes = sizes_text header.names header.present in
     record {
-      free = rules_free rules;
-      is = append_cancel_left (codes "matching ") words (rules_word rules ++ 32 ∷ sizes) (sym e ∙ h.is ∙ append_assoc (codes "matching " ++ rules_word rules) (32 ∷ []) sizes ∙ append_assoc (codes "matching ") (rules_word rules) (32 ∷ sizes));
+      free = rules_free header.rules;
+      is = append_cancel_left (codes "matching ") words (rules_word header.rules ++ 32 ∷ sizes) (sym e ∙ h.is ∙ parts_of header.rules sizes);
     }
 
 -- the two parts of a header after its first word
-pub header_parts : (line words front back : List ℕ) (rules : RuleSet) (size count : ℕ) → line ≡ codes "matching " ++ words → CutAt 32 words front back → SpellsHeader line rules size count → (front ≡ rules_word rules) × (back ≡ sizes_text size count)
-header_parts line words front back rules size count e a h =
-    cut_once 32 words front (rules_word rules) back (sizes_text size count) a (header_words line words rules size count e h)
+pub header_parts : (line words front back : List ℕ) (header : Header) → line ≡ codes "matching " ++ words → CutAt 32 words front back → SpellsHeader line header → (front ≡ rules_word header.rules) × (back ≡ sizes_text header.names header.present)
+header_parts line words front back header e a h =
+    cut_once 32 words front (rules_word header.rules) back (sizes_text header.names header.present) a (header_words line words header e h)
 
 -- a number has no space
 pub free_size : (n : ℕ) → n ≤ 65535 → IsFree 32 (number_text n)
@@ -82,15 +86,26 @@ rules_back = record { once = once }
     once x y r s f g a b e = absurd (omega (arith, ap (λ (z : List ℕ). get_or z 0 0) e))
 
 -- a header's numbers
-pub sizes_of : (line : List ℕ) (rules : RuleSet) (size count : ℕ) → SpellsHeader line rules size count → AreSizes size count
-sizes_of line rules size count h = record { few = h.few; within = h.within }
+pub sizes_of : (line : List ℕ) (header : Header) → SpellsHeader line header → AreSizes header.names header.present
+sizes_of line header h = record { few = h.few; within = h.within }
+
+-- a header is found exactly if its numbers are
+pub header_found : (line words front back : List ℕ) (rules : RuleSet) (found : Option Header) → line ≡ codes "matching " ++ words → CutAt 32 words front back → front ≡ rules_word rules → ParsesAs (λ (header : Header). (header.rules ≡ rules) × AreSizes header.names header.present) (λ header. sizes_text header.names header.present) back found → MatchOption found ((header : Header) → SpellsHeader line header → ⊥) (SpellsHeader line)
+header_found line words front back r None e at word none = λ header h.
+    let p = header_parts line words front back header e at h in
+    none header (alone rules_back (λ q. tt) header.rules r tt tt (sym p.0 ∙ word), sizes_of line header h) p.1
+header_found line words front back r (Some header) e at word found =
+    let sizes = sizes_text header.names header.present in
+    let rest : words ≡ rules_word header.rules ++ 32 ∷ sizes = at.is ∙ ap₂ (λ (x y : List ℕ). x ++ 32 ∷ y) (word ∙ ap rules_word (sym found.0.0)) found.1 in
+    record { few = found.0.1.few; within = found.0.1.within; is = e ∙ ap (λ (z : List ℕ). codes "matching " ++ z) rest ∙ sym (parts_of header.rules sizes) }
 
 -- a line spells one header
-pub spells_header_once : (line : List ℕ) (r q : RuleSet) (m n c d : ℕ) → SpellsHeader line r m c → SpellsHeader line q n d → (r ≡ q) × (m ≡ n) × (c ≡ d)
-spells_header_once line r q m n c d a b =
-    let sizes = sizes_text m c in
-    let words = rules_word r ++ 32 ∷ sizes in
-    let e : line ≡ codes "matching " ++ words = a.is ∙ append_assoc (codes "matching " ++ rules_word r) (32 ∷ []) sizes ∙ append_assoc (codes "matching ") (rules_word r) (32 ∷ sizes) in
-    let p = cut_once 32 words (rules_word r) (rules_word q) sizes (sizes_text n d) (header_words line words r m c e a) (header_words line words q n d e b) in
-    let numbers = sizes_once sizes m n c d (sizes_of line r m c a) (sizes_of line q n d b) refl p.1 in
-    (alone rules_back (λ rules. tt) r q tt tt p.0, numbers.0, numbers.1)
+pub spells_header_once : (line : List ℕ) (a b : Header) → SpellsHeader line a → SpellsHeader line b → a ≡ b
+spells_header_once line a b x y =
+    let sizes = sizes_text a.names a.present in
+    let words = rules_word a.rules ++ 32 ∷ sizes in
+    let e : line ≡ codes "matching " ++ words = x.is ∙ parts_of a.rules sizes in
+    let p = header_parts line words (rules_word a.rules) sizes b e (header_words line words a e x) y in
+    let rules = alone rules_back (λ rules. tt) a.rules b.rules tt tt p.0 in
+    let numbers = sizes_once sizes a.names b.names a.present b.present (sizes_of line a x) (sizes_of line b y) refl p.1 in
+    λ i. record { rules = rules i; names = numbers.0 i; present = numbers.1 i }

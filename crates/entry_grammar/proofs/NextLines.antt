@@ -1,11 +1,11 @@
 -- The next line of a base: its numbers, a node or an edge.
-use Rattle.entry_grammar.proofs.Prelude.{◌≡◌, ℕ, ◌<◌, ◌≤◌, List, sym, subst, ◌∙◌, arith, node_record_text, link_text, BaseLine, Base, Link, IsBaseLine, IsOrderedPair, base_line_text, AreCounts, Starts, IsEdgeAbove, IsPlace, place_line, numbers_text}
+use Rattle.entry_grammar.proofs.Prelude.{◌≡◌, ℕ, ◌<◌, ◌≤◌, List, sym, subst, ◌∙◌, arith, node_record_text, link_text, BaseLine, BaseNumbers, Base, Link, IsBaseLine, IsOrderedPair, base_line_text, AreCounts, Starts, IsEdgeAbove, IsPlace, place_line, numbers_text}
 use Rattle.rule_machine.specs.declared.base.NodeRecord.{NodeRecord as PlaceKept}
 use Rattle.entry_grammar.proofs.FirstLines.{starts_once}
 
 -- each as a line
 
-pub numbers_start : (bytes : List ℕ) (q : ℕ × ℕ × ℕ × ℕ) (more : List ℕ) → Starts AreCounts numbers_text bytes q more → Starts IsBaseLine base_line_text bytes (Base q.0 q.1 q.2 q.3) more
+pub numbers_start : (bytes : List ℕ) (q : BaseNumbers) (more : List ℕ) → Starts AreCounts numbers_text bytes q more → Starts IsBaseLine base_line_text bytes (Base q) more
 numbers_start bytes q more h = record { fits = h.fits; is = h.is }
 
 pub place_starts : (bytes : List ℕ) (place : PlaceKept) (more : List ℕ) → Starts IsPlace node_record_text bytes place more → Starts IsBaseLine base_line_text bytes (place_line place) more
@@ -16,8 +16,8 @@ edge_starts bytes edge more h = record { fits = h.fits; is = h.is }
 
 -- if the line is another, there is none
 
-pub no_numbers : (bytes : List ℕ) (line : BaseLine) (rest : List ℕ) → Starts IsBaseLine base_line_text bytes line rest → ((q : ℕ × ℕ × ℕ × ℕ) → line ≡ Base q.0 q.1 q.2 q.3 → ⊥) → (q : ℕ × ℕ × ℕ × ℕ) (more : List ℕ) → Starts AreCounts numbers_text bytes q more → ⊥
-no_numbers bytes line rest found none q more h = none q (starts_once bytes line (Base q.0 q.1 q.2 q.3) rest more found (numbers_start bytes q more h))
+pub no_numbers : (bytes : List ℕ) (line : BaseLine) (rest : List ℕ) → Starts IsBaseLine base_line_text bytes line rest → ((q : BaseNumbers) → line ≡ Base q → ⊥) → (q : BaseNumbers) (more : List ℕ) → Starts AreCounts numbers_text bytes q more → ⊥
+no_numbers bytes line rest found none q more h = none q (starts_once bytes line (Base q) rest more found (numbers_start bytes q more h))
 
 pub no_place_starts : (bytes : List ℕ) (line : BaseLine) (rest : List ℕ) → Starts IsBaseLine base_line_text bytes line rest → ((place : PlaceKept) → line ≡ place_line place → ⊥) → (place : PlaceKept) (more : List ℕ) → Starts IsPlace node_record_text bytes place more → ⊥
 no_place_starts bytes line rest found none place more h = none place (starts_once bytes line (place_line place) rest more found (place_starts bytes place more h))

@@ -42,10 +42,12 @@ pub use Rattle.rule_machine.specs.declared.reply.Reply.{Reply}
 pub use Rattle.rule_machine.specs.declared.reply.Reply.TheVariants.{Accepted, Refused, Moves, Shown, EnabledAre, Pairs}
 pub use Rattle.rule_machine.specs.declared.rule_set.RuleSet.{RuleSet}
 pub use Rattle.rule_machine.specs.declared.rule_set.RuleSet.TheVariants.{Hh, Manne}
-pub use Rattle.entry_grammar.specs.BaseLines.{IsEdgeAbove, NodesRise, EdgesRise, IsPlace, node_key, place_line, EdgesFollow, NodesFollow, MayFollow, BreaksAt, AscendByKey, IsNodeAbove, IsShaped, base_lines, lines_of_base, LacksLines}
-pub use Rattle.entry_grammar.specs.BaseParts.{numbers_text, last_key, NodesRead, NodesBreak, EdgesBreak, LinesBreak, LinesRead}
-pub use Rattle.entry_grammar.specs.Parsing.{AreCounts, Starts, IsFree, CutAt, rules_text, registers_text, FieldThen, PartsOf, reply_suits, first_byte, EndsWord, TokenThen, PairThen, DeedThen, deed_text, is_done, answers_step, is_shown, are_enabled, are_pairs, are_counts}
-pub use Rattle.entry_grammar.specs.Spelling.{IsOrderedPair, IsBaseLine, base_line_text, SpellsBaseLine, IsReply, SpellsEntry, AsksForList, AreSizes, SpellsHeader}
+pub use Rattle.entry_grammar.specs.BaseLines.{IsEdgeAbove, NodesRise, EdgesRise, IsPlace, node_key, place_line, EdgesFollow, NodesFollow, MayFollow, BreaksAt, AscendByKey, IsNodeAbove, IsShaped, base_lines, base_numbers, lines_of_base, LacksLines}
+pub use Rattle.entry_grammar.specs.BaseParts.{last_key, NodesRead, NodesBreak, EdgesBreak, LinesBreak, LinesRead}
+pub use Rattle.entry_grammar.specs.Parsing.{Starts, IsFree, CutAt, rules_text, registers_text, FieldThen, PartsOf, reply_suits, first_byte, EndsWord, TokenThen, PairThen, DeedThen, deed_text, is_done, answers_step, is_shown, are_enabled, are_pairs, are_counts}
+pub use Rattle.entry_grammar.specs.Spelling.{AreCounts, numbers_text, IsOrderedPair, IsBaseLine, base_line_text, SpellsBaseLine, IsReply, SpellsEntry, AsksForList, AreSizes, SpellsHeader}
 pub use Rattle.entry_grammar.specs.declared.base_line.BaseLine.{BaseLine}
 pub use Rattle.entry_grammar.specs.declared.base_line.BaseLine.TheVariants.{Base, Place, Link, Head}
+pub use Rattle.entry_grammar.specs.declared.base_line.BaseNumbers.{BaseNumbers}
+pub use Rattle.entry_grammar.specs.declared.header.Header.{Header}
 pub use Rattle.entry_grammar.specs.declared.fault.BaseFault.TheVariants.{BadLine}

@@ -8,6 +8,7 @@ use Rattle.line_text.specs.Words.{IsName, lines_with_ends}
 use Rattle.line_text.specs.ReplyText.{IsCountValue}
 use Rattle.line_text.specs.BaseText.{numbers_line, node_record_text, link_text}
 use Rattle.entry_grammar.specs.declared.base_line.BaseLine.{BaseLine}
+use Rattle.entry_grammar.specs.declared.base_line.BaseNumbers.{BaseNumbers}
 use Rattle.entry_grammar.specs.declared.base_line.BaseLine.TheVariants.{Base, Place, Link}
 use Rattle.entry_grammar.specs.Spelling.{IsOrderedPair, IsBaseLine, base_line_text}
 
@@ -61,9 +62,11 @@ base_lines base =
 abbrev pub place_line : PlaceKept → BaseLine
 place_line place = Place place.node place.target place.flagged
 
+abbrev pub base_numbers : BaseKept → BaseNumbers
+base_numbers base = record { number = base.number; spent = base.spent; nodes = length base.nodes; edges = length base.edges }
+
 abbrev pub lines_of_base : BaseKept → List BaseLine
-lines_of_base base =
-    Base base.number base.spent (length base.nodes) (length base.edges) ∷ (map place_line base.nodes ++ map (λ edge. Link edge) base.edges)
+lines_of_base base = Base (base_numbers base) ∷ (map place_line base.nodes ++ map (λ edge. Link edge) base.edges)
 
 -- the lines are at most `left` edges, which ascend and come after `last`
 abbrev pub EdgesFollow : (left : ℕ) → (last : ℕ × ℕ) → List BaseLine → Type 0
@@ -82,13 +85,13 @@ NodesFollow (suc left) edges last (line ∷ lines) = ⊥
 -- the lines are the first lines of a base, perhaps not all: the numbers, the nodes, then the edges
 abbrev pub MayFollow : List BaseLine → Type 0
 MayFollow [] = Unit {0}
-MayFollow (Base number spent nodes edges ∷ lines) = NodesFollow nodes edges 0 lines
+MayFollow (Base q ∷ lines) = NodesFollow q.nodes q.edges 0 lines
 MayFollow (line ∷ lines) = ⊥
 
 -- there are fewer lines than the base's numbers say
 abbrev pub LacksLines : List BaseLine → Type 0
 LacksLines [] = Unit {0}
-LacksLines (Base number spent nodes edges ∷ lines) = length lines < nodes + edges
+LacksLines (Base q ∷ lines) = length lines < q.nodes + q.edges
 LacksLines (line ∷ lines) = ⊥
 
 -- Line k, counted from 1, is the first wrong line: the lines before line k are the first lines of a

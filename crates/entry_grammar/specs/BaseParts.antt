@@ -3,14 +3,10 @@ use Rattle.std.specs.Prelude.{◌≡◌, ℕ, ◌+◌, ◌<◌, List, [], ◌∷
 use Rattle.std.specs.List.{AllByRecursion}
 use Rattle.rule_machine.specs.declared.base.NodeRecord.{NodeRecord}
 use Rattle.line_text.specs.Words.{lines_with_ends}
-use Rattle.line_text.specs.BaseText.{base_counts, node_record_text, link_text}
+use Rattle.line_text.specs.BaseText.{node_record_text, link_text}
 use Rattle.entry_grammar.specs.Spelling.{IsOrderedPair}
 use Rattle.entry_grammar.specs.Parsing.{Starts}
 use Rattle.entry_grammar.specs.BaseLines.{AscendByKey, IsEdgeAbove, IsNodeAbove, IsPlace, node_key}
-
--- the line of the four numbers
-abbrev pub numbers_text : ℕ × ℕ × ℕ × ℕ → List ℕ
-numbers_text q = base_counts q.0 q.1 q.2 q.3
 
 -- the key of the last item; `last` if there are no items
 abbrev pub last_key : {K X : Type 0} → (X → K) → K → List X → K

@@ -121,10 +121,6 @@ ReadsReply kind bytes found = ParsesAs (λ reply. IsTrue (kind reply) × IsReply
 abbrev pub rules_text : RuleSet → ℕ → List ℕ
 rules_text rules size = rules_word rules ++ 32 ∷ number_text size
 
--- what the four numbers of a base satisfy
-abbrev pub AreCounts : ℕ × ℕ × ℕ × ℕ → Type 0
-AreCounts q = IsCountValue q.0 × IsCountValue q.1 × IsCountValue q.2 × IsCountValue q.3
-
 -- a pointer, and a flag
 abbrev pub registers_text : Option ℕ → Bool → List ℕ
 registers_text target flag = target_text target ++ 32 ∷ bool_text flag

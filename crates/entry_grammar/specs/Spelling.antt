@@ -3,7 +3,6 @@ use Rattle.std.specs.Prelude.{◌≡◌, ℕ, ◌≤◌, Bool, true, false, List
 use Rattle.rule_machine.specs.declared.event.Event.{Event}
 use Rattle.rule_machine.specs.declared.event.Event.TheVariants.{Step, Enabled, Matching}
 use Rattle.rule_machine.specs.declared.reply.Reply.{Reply}
-use Rattle.rule_machine.specs.declared.rule_set.RuleSet.{RuleSet}
 use Rattle.log_entry.specs.Kinds.{fits}
 pub use Rattle.log_entry.specs.Kinds.{max_entries}
 pub use Rattle.line_text.specs.ReplyText.{IsMoved, IsEnabled, IsOrderedPair, IsReply}
@@ -12,6 +11,8 @@ use Rattle.line_text.specs.ReplyText.{IsCountValue}
 use Rattle.line_text.specs.EventText.{IsEvent, event_text}
 use Rattle.line_text.specs.BaseText.{base_head, base_counts, node_record_text, link_text}
 use Rattle.entry_grammar.specs.declared.base_line.BaseLine.{BaseLine}
+use Rattle.entry_grammar.specs.declared.base_line.BaseNumbers.{BaseNumbers}
+use Rattle.entry_grammar.specs.declared.header.Header.{Header}
 use Rattle.entry_grammar.specs.declared.base_line.BaseLine.TheVariants.{Head, Base, Place, Link}
 use Rattle.line_text.specs.EntryText.{header_text, entry_text}
 
@@ -45,23 +46,30 @@ pub record AreSizes (size count : ℕ) : Type 0 where
   pub few : size ≤ 65535
   pub within : count ≤ size
 
--- the line is the one spelling of the header for these rules, `size` names, and `count` of them present at
--- the start
-pub record SpellsHeader (line : List ℕ) (rules : RuleSet) (size count : ℕ) : Type 0 where
-  pub few : size ≤ 65535
-  pub within : count ≤ size
-  pub is : line ≡ header_text rules size count
+-- the line is the one spelling of this header; the names present at the start are the first ones
+pub record SpellsHeader (line : List ℕ) (header : Header) : Type 0 where
+  pub few : header.names ≤ 65535
+  pub within : header.present ≤ header.names
+  pub is : line ≡ header_text header.rules header.names header.present
+
+-- what the numbers of a base satisfy
+abbrev pub AreCounts : BaseNumbers → Type 0
+AreCounts q = IsCountValue q.number × IsCountValue q.spent × IsCountValue q.nodes × IsCountValue q.edges
+
+-- the line of the numbers
+abbrev pub numbers_text : BaseNumbers → List ℕ
+numbers_text q = base_counts q.number q.spent q.nodes q.edges
 
 -- what each value of the program's type of a base's lines satisfies
 abbrev pub IsBaseLine : BaseLine → Type 0
 IsBaseLine (Head rules size) = size ≤ 65535
-IsBaseLine (Base number spent nodes edges) = IsCountValue number × IsCountValue spent × IsCountValue nodes × IsCountValue edges
+IsBaseLine (Base q) = AreCounts q
 IsBaseLine (Place node target flagged) = IsName node × IfSome target IsName
 IsBaseLine (Link edge) = IsOrderedPair edge
 
 abbrev pub base_line_text : BaseLine → List ℕ
 base_line_text (Head rules size) = base_head rules size
-base_line_text (Base number spent nodes edges) = base_counts number spent nodes edges
+base_line_text (Base q) = numbers_text q
 base_line_text (Place node target flagged) = node_record_text (record { node = node; target = target; flagged = flagged })
 base_line_text (Link edge) = link_text edge
 

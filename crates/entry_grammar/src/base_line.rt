@@ -6,8 +6,8 @@ ghost use Rattle.line_text.specs.ReplyText.{field_text};
 ghost use Rattle.line_text.specs.BaseText.{base_fields};
 ghost use Rattle.line_text.specs.Parsing.{ParsesAs, ReadsTwo};
 ghost use Rattle.entry_grammar.specs.declared.base_line.BaseLine.{BaseLine as Line};
-ghost use Rattle.entry_grammar.specs.Spelling.{SpellsBaseLine};
-ghost use Rattle.entry_grammar.specs.Parsing.{AreCounts, ReadsPlace, registers_text, rules_text};
+ghost use Rattle.entry_grammar.specs.Spelling.{AreCounts, SpellsBaseLine};
+ghost use Rattle.entry_grammar.specs.Parsing.{ReadsPlace, registers_text, rules_text};
 ghost use Rattle.entry_grammar.specs.declared.fault.EntryFault.TheVariants.{NotALine};
 
 use crate::counts::{read_field, read_next};
@@ -18,22 +18,26 @@ use crate::tokens::{read_ends, read_marked};
 use line_text::{after, read_bool, read_target};
 use rule_machine::{Edge, Node, RuleSet};
 
+/// The four numbers in the second line of a base.
+#[derive(Clone, Copy, Debug, PartialEq, Eq)]
+pub struct BaseNumbers {
+    /// The number of the last entry before the base.
+    pub number: u32,
+    /// The moves since the last accepted disturbance, or since the start.
+    pub spent: u32,
+    /// How many node lines follow.
+    pub nodes: u32,
+    /// How many edge lines follow the node lines.
+    pub edges: u32,
+}
+
 /// A line of a base.
 #[derive(Clone, Copy, Debug, PartialEq, Eq)]
 pub enum BaseLine {
     /// The first line: the rules, and the number of names.
     Head(RuleSet, u32),
     /// The second line: the numbers of the base.
-    Base {
-        /// The number of the last entry before the base.
-        number: u32,
-        /// The moves since the last accepted disturbance, or since the start.
-        spent: u32,
-        /// How many node lines follow.
-        nodes: u32,
-        /// How many edge lines follow the node lines.
-        edges: u32,
-    },
+    Base(BaseNumbers),
     /// A node, its pointer, and its flag.
     Place(Node, Option<Node>, bool),
     /// An edge.
@@ -56,8 +60,8 @@ fn read_head(bytes: &[u8]) -> Option<(RuleSet, u32)>
 }
 
 // Reads the four numbers of a base; each number except the first comes after a name.
-fn read_base(bytes: &[u8]) -> Option<(u32, u32, u32, u32)>
-    ensures { ParsesAs AreCounts (λ q. joined_texts field_text (base_fields q.0 q.1 q.2 q.3)) bytes.now result }
+fn read_base(bytes: &[u8]) -> Option<BaseNumbers>
+    ensures { ParsesAs AreCounts (λ q. joined_texts field_text (base_fields q.number q.spent q.nodes q.edges)) bytes.now result }
 {
     let Some((number, rest)) = read_next(bytes, b"") else {
         return None;
@@ -71,7 +75,12 @@ fn read_base(bytes: &[u8]) -> Option<(u32, u32, u32, u32)>
     let Some(edges) = read_field(rest, b"edges=") else {
         return None;
     };
-    Some((number, spent, nodes, edges))
+    Some(BaseNumbers {
+        number,
+        spent,
+        nodes,
+        edges,
+    })
 }
 
 fn read_registers(bytes: &[u8]) -> Option<(Option<Node>, bool)>
@@ -119,15 +128,10 @@ fn find_base_line(line: &[u8]) -> Option<BaseLine>
         return Some(BaseLine::Link(edge));
     }
     if let Some(rest) = after(line, b"base ") {
-        let Some((number, spent, nodes, edges)) = read_base(rest) else {
+        let Some(numbers) = read_base(rest) else {
             return None;
         };
-        return Some(BaseLine::Base {
-            number,
-            spent,
-            nodes,
-            edges,
-        });
+        return Some(BaseLine::Base(numbers));
     }
     let Some(rest) = after(line, b"matching2 ") else {
         return None;

@@ -5,13 +5,14 @@ ghost use Rattle.rule_machine.specs.declared.base.NodeRecord.{NodeRecord as Plac
 ghost use Rattle.line_text.specs.BaseText.{node_record_text, link_text};
 ghost use Rattle.entry_grammar.specs.declared.base_line.BaseLine.{BaseLine as Line};
 ghost use Rattle.entry_grammar.specs.declared.base_line.BaseLine.TheVariants.{Base as LineOfNumbers, Link};
+ghost use Rattle.entry_grammar.specs.declared.base_line.BaseNumbers.{BaseNumbers};
 ghost use Rattle.entry_grammar.specs.declared.fault.BaseFault.TheVariants.{BadLine};
-ghost use Rattle.entry_grammar.specs.Spelling.{IsBaseLine, IsOrderedPair, base_line_text};
-ghost use Rattle.entry_grammar.specs.Parsing.{AreCounts, Starts};
+ghost use Rattle.entry_grammar.specs.Spelling.{AreCounts, IsBaseLine, IsOrderedPair, base_line_text, numbers_text};
+ghost use Rattle.entry_grammar.specs.Parsing.{Starts};
 ghost use Rattle.entry_grammar.specs.BaseLines.{IsEdgeAbove, IsPlace, IsShaped, base_lines, BreaksAt, place_line};
-ghost use Rattle.entry_grammar.specs.BaseParts.{NodesRead, NodesBreak, EdgesRead, EdgesBreak, numbers_text};
+ghost use Rattle.entry_grammar.specs.BaseParts.{NodesRead, NodesBreak, EdgesRead, EdgesBreak};
 
-use crate::base_line::{BaseLine, read_base_line};
+use crate::base_line::{BaseLine, BaseNumbers, read_base_line};
 use crate::fault::BaseFault;
 use byte_streams::split_line;
 use rule_machine::{Base, Edge, Listing, NodeRecord};
@@ -32,25 +33,18 @@ fn next_line(bytes: &[u8]) -> Option<(BaseLine, &[u8])>
     }
 }
 
-fn numbers_of(line: BaseLine) -> Option<(u32, u32, u32, u32)>
-    ensures { MatchOption result
-        ((q : ℕ × ℕ × ℕ × ℕ) → line ≡ LineOfNumbers q.0 q.1 q.2 q.3 → ⊥)
-        (λ q. line ≡ LineOfNumbers q.0 q.1 q.2 q.3) }
+fn numbers_of(line: BaseLine) -> Option<BaseNumbers>
+    ensures { MatchOption result ((q : BaseNumbers) → line ≡ LineOfNumbers q → ⊥) (λ q. line ≡ LineOfNumbers q) }
 {
     match line {
-        BaseLine::Base {
-            number,
-            spent,
-            nodes,
-            edges,
-        } => Some((number, spent, nodes, edges)),
+        BaseLine::Base(numbers) => Some(numbers),
         _ => None,
     }
 }
 
-fn next_numbers(bytes: &[u8]) -> Option<((u32, u32, u32, u32), &[u8])>
+fn next_numbers(bytes: &[u8]) -> Option<(BaseNumbers, &[u8])>
     ensures { MatchOption result
-        ((q : ℕ × ℕ × ℕ × ℕ) (more : List ℕ) → Starts AreCounts numbers_text bytes.now q more → ⊥)
+        ((q : BaseNumbers) (more : List ℕ) → Starts AreCounts numbers_text bytes.now q more → ⊥)
         (λ found. Starts AreCounts numbers_text bytes.now found.0 found.1.now) }
 {
     let Some((line, rest)) = next_line(bytes) else {
@@ -196,14 +190,14 @@ pub fn read_base<'a>(alloc: Global, bytes: &'a [u8]) -> Result<(Base, &'a [u8]),
     ensures shaped { IfOk result (λ found. IsShaped found.0) }
     ensures bad { IfErr result (λ fault. (k : ℕ) → fault ≡ BadLine k → BreaksAt bytes.now k) }
 {
-    let Some(((number, spent, node_count, edge_count), rest)) = next_numbers(bytes) else {
+    let Some((numbers, rest)) = next_numbers(bytes) else {
         return Err(BaseFault::BadLine(1));
     };
-    let (nodes, rest) = read_nodes(alloc, rest, node_count)?;
-    let (edges, rest) = read_edges(alloc, rest, edge_count, u64::from(node_count) + 2)?;
+    let (nodes, rest) = read_nodes(alloc, rest, numbers.nodes)?;
+    let (edges, rest) = read_edges(alloc, rest, numbers.edges, u64::from(numbers.nodes) + 2)?;
     let base = Base {
-        number,
-        spent,
+        number: numbers.number,
+        spent: numbers.spent,
         nodes: Listing::from_vec(nodes),
         edges: Listing::from_vec(edges),
     };

@@ -1,11 +1,12 @@
 //! The first line of a transcript.
 
-ghost use Rattle.std.specs.Prelude.{◌≡◌, ℕ, ◌≤◌, ⊤, IfOk, IfErr, MatchOption};
+ghost use Rattle.std.specs.Prelude.{◌≡◌, ◌≤◌, ⊤, IfOk, IfErr, MatchOption};
 ghost use Rattle.rule_machine.specs.declared.rule_set.RuleSet.{RuleSet};
 ghost use Rattle.rule_machine.specs.Tables.{rules_word};
 ghost use Rattle.line_text.specs.Words.{number_text};
 ghost use Rattle.line_text.specs.EntryText.{header_text, sizes_text};
-ghost use Rattle.line_text.specs.Parsing.{ParsesAs, ReadsTwo};
+ghost use Rattle.line_text.specs.Parsing.{ParsesAs};
+ghost use Rattle.entry_grammar.specs.declared.header.Header.{Header as HeaderRead};
 ghost use Rattle.entry_grammar.specs.Spelling.{AreSizes, SpellsHeader};
 ghost use Rattle.entry_grammar.specs.declared.fault.EntryFault.TheVariants.{NotALine};
 
@@ -15,6 +16,17 @@ use crate::fault::EntryFault;
 use line_text::{after, put_header};
 use rule_machine::{MAX_NAME, RuleSet, Want};
 use std::alloc::Global;
+
+/// The first line of a transcript.
+#[derive(Clone, Copy, Debug, PartialEq, Eq)]
+pub struct Header {
+    /// The rules.
+    pub rules: RuleSet,
+    /// How many names there are.
+    pub names: u32,
+    /// How many of the names are present at the start.
+    pub present: u32,
+}
 
 pub(crate) fn read_rules(bytes: &[u8]) -> Option<RuleSet>
     ensures { ParsesAs (λ (rules : RuleSet). ⊤) rules_word bytes.now result }
@@ -34,33 +46,40 @@ pub(crate) fn read_size(bytes: &[u8]) -> Option<u32>
     read_up_to(bytes, MAX_NAME)
 }
 
-// Reads the number of names, and how many are present at the start.
+// Reads what follows the rules: the number of names, and how many are present at the start.
 // Without a second number all names are present. `None` if the second number is not below the first.
-fn read_sizes(bytes: &[u8]) -> Option<(u32, u32)>
-    ensures { ReadsTwo AreSizes sizes_text bytes.now result }
+fn read_sizes(rules: RuleSet, bytes: &[u8]) -> Option<Header>
+    ensures { ParsesAs (λ header. (header.rules ≡ rules) × AreSizes header.names header.present)
+        (λ header. sizes_text header.names header.present) bytes.now result }
 {
-    let Some((size, count)) = cut(bytes, b' ') else {
-        let Some(size) = read_size(bytes) else {
+    let Some((names, present)) = cut(bytes, b' ') else {
+        let Some(names) = read_size(bytes) else {
             return None;
         };
-        return Some((size, size));
+        return Some(Header {
+            rules,
+            names,
+            present: names,
+        });
     };
-    let Some(size) = read_size(size) else {
+    let Some(names) = read_size(names) else {
         return None;
     };
-    let Some(count) = read_up_to(count, MAX_NAME) else {
+    let Some(present) = read_up_to(present, MAX_NAME) else {
         return None;
     };
-    if count >= size {
+    if present >= names {
         return None;
     }
-    Some((size, count))
+    Some(Header {
+        rules,
+        names,
+        present,
+    })
 }
 
-fn find_header(line: &[u8]) -> Option<(RuleSet, u32, u32)>
-    ensures { MatchOption result
-        ((rules : RuleSet) (size count : ℕ) → SpellsHeader line.now rules size count → ⊥)
-        (λ found. SpellsHeader line.now found.0 found.1 found.2) }
+fn find_header(line: &[u8]) -> Option<Header>
+    ensures { MatchOption result ((header : HeaderRead) → SpellsHeader line.now header → ⊥) (SpellsHeader line.now) }
 {
     let Some(words) = after(line, b"matching ") else {
         return None;
@@ -71,10 +90,7 @@ fn find_header(line: &[u8]) -> Option<(RuleSet, u32, u32)>
     let Some(rules) = read_rules(word) else {
         return None;
     };
-    let Some((size, count)) = read_sizes(sizes) else {
-        return None;
-    };
-    Some((rules, size, count))
+    read_sizes(rules, sizes)
 }
 
 /// The header for these rules and names, without an LF. `read_header` reads the header back.
@@ -84,7 +100,7 @@ pub fn header_text(alloc: Global, rules: RuleSet, size: u32, count: u32) -> Resu
     requires few { size ≤ 65535 }
     requires within { count ≤ size }
     ensures text { IfOk result (λ text. text.items ≡ header_text rules size count) }
-    ensures spelled { IfOk result (λ text. SpellsHeader text.items rules size count) }
+    ensures spelled { IfOk result (λ text. SpellsHeader text.items (record { rules = rules; names = size; present = count })) }
 {
     let mut text = Vec::new(alloc);
     put_header(&mut text, rules, size, count)?;
@@ -92,12 +108,11 @@ pub fn header_text(alloc: Global, rules: RuleSet, size: u32, count: u32) -> Resu
     Ok(text)
 }
 
-/// Reads a header, without its LF: rules, number of names, and how many are present at the start.
+/// Reads a header, without its LF.
 /// Error: `NotALine` if the line is not a header. Takes no memory.
-pub fn read_header(line: &[u8]) -> Result<(RuleSet, u32, u32), EntryFault>
-    ensures ok { IfOk result (λ found. SpellsHeader line.now found.0 found.1 found.2) }
-    ensures not_a_line { IfErr result (λ fault.
-        (fault ≡ NotALine) × ((rules : RuleSet) (size count : ℕ) → SpellsHeader line.now rules size count → ⊥)) }
+pub fn read_header(line: &[u8]) -> Result<Header, EntryFault>
+    ensures ok { IfOk result (SpellsHeader line.now) }
+    ensures not_a_line { IfErr result (λ fault. (fault ≡ NotALine) × ((header : HeaderRead) → SpellsHeader line.now header → ⊥)) }
 {
     find_header(line).ok_or(EntryFault::NotALine)
 }

@@ -4,8 +4,8 @@ ghost use Rattle.std.specs.Prelude.{◌≡◌, ◌≤◌, ◌++◌, ℕ, List, l
 ghost use Rattle.rule_machine.specs.declared.base.Base.{Base};
 ghost use Rattle.rule_machine.specs.declared.event.Event.{Event};
 ghost use Rattle.rule_machine.specs.declared.reply.Reply.{Reply};
-ghost use Rattle.rule_machine.specs.declared.rule_set.RuleSet.{RuleSet};
 ghost use Rattle.entry_grammar.specs.declared.base_line.BaseLine.{BaseLine};
+ghost use Rattle.entry_grammar.specs.declared.header.Header.{Header};
 ghost use Rattle.entry_grammar.specs.BaseLines.{IsShaped, BreaksAt, base_lines};
 ghost use Rattle.entry_grammar.specs.Spelling.{SpellsBaseLine, SpellsEntry, SpellsHeader};
 
@@ -14,8 +14,7 @@ pub fn one_spelling()
     ensures entry { (line : List ℕ) (m n : ℕ) (e f : Event × Reply)
         → SpellsEntry line m e → SpellsEntry line n f → (m ≡ n) × (e ≡ f) }
     ensures base { (line : List ℕ) (a b : BaseLine) → SpellsBaseLine line a → SpellsBaseLine line b → a ≡ b }
-    ensures header { (line : List ℕ) (r q : RuleSet) (m n c d : ℕ)
-        → SpellsHeader line r m c → SpellsHeader line q n d → (r ≡ q) × (m ≡ n) × (c ≡ d) }
+    ensures header { (line : List ℕ) (a b : Header) → SpellsHeader line a → SpellsHeader line b → a ≡ b }
 {}
 
 /// A text begins with the lines of at most one base.

@@ -26,9 +26,9 @@ mod reply;
 mod token;
 mod tokens;
 
-pub use base_line::{BaseLine, read_base_line};
+pub use base_line::{BaseLine, BaseNumbers, read_base_line};
 pub use base_reader::read_base;
 pub use entry::{entry_text, read_entry};
 pub use fault::{BaseFault, EntryFault};
-pub use header::{header_text, read_header};
+pub use header::{Header, header_text, read_header};
 pub use law::{entry_lines_are_short, one_base, one_spelling};

@@ -11,6 +11,5 @@ pub mod Faults
 pub mod PresentRows
 pub mod LeavingNodes
 pub mod PairLists
-pub mod OpenEdges
 pub mod PooledRows
 pub mod PoolChanges

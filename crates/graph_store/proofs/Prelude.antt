@@ -38,12 +38,9 @@ pub use Rattle.machine_laws.proofs.Leaves.{unit_some}
 pub use Rattle.machine_laws.proofs.Neighbours.{present_range, linked_back}
 pub use Rattle.rule_machine.specs.Network.{Network, present, linked, edge, edge_count, PairSet, neighbours, is_end, without_edge, without_node, IsNetwork, names, pair_cmp, pair_set, first_names, edgeless_with, with_edge, edge_list, node_count}
 pub use Rattle.rule_machine.specs.Refuse.{max_edges}
-pub use Rattle.graph_store.specs.EdgeStances.{are_open, end_at, open_among, CountsOpenEdges}
 pub use Rattle.graph_store.specs.Fault.{ends_fault, link_fault, unlink_fault, leave_fault}
 pub use Rattle.graph_store.specs.Graph.{Graph, HasRoomFor}
 pub use Rattle.graph_store.specs.RowPools.{names_at, no_head, head_at, is_long, row_of, room_of, spare_at, lists_of, rooms_of, AreDisjointParts, IsPool, RowLists}
 pub use Rattle.graph_store.specs.Rows.{has, IsPlaceOf, IsGapFor, contents, row_at, network_of, IsRows, IsPartFor, edges_of, IsStore, pairs_from, put_both, take_both}
-pub use Rattle.graph_store.specs.declared.edge_stance.EdgeStance.{EdgeStance}
-pub use Rattle.graph_store.specs.declared.edge_stance.EdgeStance.TheVariants.{Shut}
 pub use Rattle.graph_store.specs.declared.row_pool.Head.{Head}
 pub use Rattle.graph_store.specs.declared.fault.GraphFault.TheVariants.{UnknownNode, SelfLoop, AlreadyLinked, NotLinked, TooManyEdges}

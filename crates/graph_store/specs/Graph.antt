@@ -2,28 +2,23 @@
 use Rattle.std.specs.Prelude.{ℕ, ◌<◌, Bool, List, slice_index_or, refl}
 use Rattle.std.specs.Coded.{Coded, code_by, coded×, coded_ℕ, coded_list}
 use Rattle.rule_machine.specs.Network.{Network, network_code}
-use Rattle.graph_store.specs.declared.edge_stance.EdgeStance.{EdgeStance}
-use Rattle.graph_store.specs.EdgeStances.{end_code}
 use Rattle.graph_store.specs.RowPools.{RowLists}
 use Rattle.graph_store.specs.Rows.{network_of}
 
--- A network; for each name, the room for further neighbours and the stance on its edges. Both lists
--- have an entry for each name.
+-- A network; for each name, the room for further neighbours. The list has an entry for each name.
 pub record Graph : Type 0 where
   pub network : Network
   pub room : List ℕ
-  pub ends : List EdgeStance
 
 abbrev pub graph_code : Coded Graph
 graph_code =
-    code_by (Network × (List ℕ × List EdgeStance)) (coded× network_code (coded× (coded_list coded_ℕ) (coded_list end_code))) (λ g. (g.network, (g.room, g.ends))) (λ p. record { network = p.0; room = p.1.0; ends = p.1.1 }) (λ _. refl)
+    code_by (Network × List ℕ) (coded× network_code (coded_list coded_ℕ)) (λ g. (g.network, g.room)) (λ p. record { network = p.0; room = p.1 }) (λ _. refl)
 
 -- the graph that contracts see of a store with these parts
-abbrev pub graph_of : ℕ → List Bool → RowLists → List EdgeStance → Graph
-graph_of size roll rows ends = record {
+abbrev pub graph_of : ℕ → List Bool → RowLists → Graph
+graph_of size roll rows = record {
   network = network_of size roll rows.lists;
   room = rows.room;
-  ends = ends;
 }
 
 -- inserting an edge between these two names takes no memory

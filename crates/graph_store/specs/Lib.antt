@@ -1,5 +1,4 @@
 pub mod Fault
 pub mod Rows
 pub mod Graph
-pub mod EdgeStances
 pub mod RowPools

@@ -4,15 +4,13 @@ ghost use Rattle.std.specs.Prelude.{◌≡◌, ◌≢◌, ◌≤◌, ℕ, false,
 ghost use Rattle.std.specs.List.Sorted.{IsStrictlyIncreasing};
 ghost use Rattle.rule_machine.specs.Network.{edgeless, edgeless_with, with_node, without_node, names, first_names, node_count, edge_count, edge_list, present, linked, neighbours, with_edge, without_edge};
 ghost use Rattle.graph_store.specs.Fault.{nodes_fault, ends_fault, join_fault, leave_fault, link_fault, unlink_fault, ExplainsGraphFault};
-ghost use Rattle.graph_store.specs.EdgeStances.{end_at, open_edges};
 ghost use Rattle.graph_store.specs.Graph.{HasRoomFor};
 ghost use Rattle.graph_store.specs.Rows.{has, IsGapFor, IsPlaceOf};
 ghost use Rattle.graph_store.specs.declared.fault.GraphFault.TheVariants.{Memory};
 
-use crate::edge_stance::{are_open, shut_ends, turn_end};
+use crate::GraphFault;
 use crate::row_pool::Rows;
 use crate::rows::{find_gap, find_place, guess_gap};
-use crate::{EdgeStance, GraphFault};
 use enabled_set::EnabledSet;
 use rule_machine::{Edge, MAX_EDGES, MAX_NAME, Node, Want};
 use std::alloc::Global;
@@ -20,9 +18,9 @@ use std::marker::Model;
 
 /// A network of nodes named 1 to a fixed capacity, as sorted neighbour lists.
 ///
-/// Contracts see the network, the room in each list, and each name's stance (`EdgeStance`) on its edges.
-/// Memory, for each name: 8 bytes, a bit (present), a byte (stance) and a block of 16, 32, 48 or 64 neighbours,
-/// two bytes each. A longer list has a vector of its own.
+/// Contracts see the network and the room in each list.
+/// Memory, for each name: 8 bytes, a bit (present) and a block of 16, 32, 48 or 64 neighbours, two bytes each.
+/// A longer list has a vector of its own.
 /// An absent name has no neighbours.
 #[derive(Drop)]
 pub struct EdgeStore {
@@ -30,10 +28,6 @@ pub struct EdgeStore {
     nodes: u32,
     here: EnabledSet,
     edges: u32,
-    ends: Vec<EdgeStance>,
-    open_edges: u32,
-    // If this is set, each stance is `Shut`, and no stance is read.
-    all_shut: bool,
     // A guess, checked before use: the last reserved edge's index in the row of the edge's first end.
     last_gap: usize,
 }
@@ -41,20 +35,19 @@ pub struct EdgeStore {
 impl Model for EdgeStore {
     ghost use Rattle.graph_store.specs.Graph.{Graph, graph_code, graph_of};
     ghost use Rattle.graph_store.specs.Rows.{IsStore};
-    ghost use Rattle.graph_store.specs.EdgeStances.{CountsOpenEdges};
 
     ghost Value = { Graph };
 
     ghost coded = { graph_code };
 
-    ghost view = { λ s. graph_of s.nodes s.here s.rows s.ends.items };
+    ghost view = { λ s. graph_of s.nodes s.here s.rows };
 
-    ghost invariant = { λ s. IsStore s.nodes s.here s.edges s.rows.lists × CountsOpenEdges s.nodes s.rows.lists s.ends.items s.all_shut s.open_edges };
+    ghost invariant = { λ s. IsStore s.nodes s.here s.edges s.rows.lists };
 }
 
 impl EdgeStore {
     /// The graph of the nodes 1 to `nodes`, all present, without edges. No further node can join.
-    /// Takes 9 bytes and a bit for each node.
+    /// Takes 8 bytes and a bit for each node.
     /// Errors: `TooManyNodes` if `nodes` is above 65,535; `Memory` if memory runs out.
     pub fn new(alloc: Global, nodes: u32) -> Result<EdgeStore, GraphFault>
         ensures ok { IfOk result (λ store. store.network ≡ edgeless nodes) }
@@ -77,15 +70,11 @@ impl EdgeStore {
         }
         let rows = Rows::new(alloc, nodes as usize + 1).map_err(|_| GraphFault::Memory)?;
         let here = first_names(alloc, nodes, present).map_err(|_| GraphFault::Memory)?;
-        let ends = shut_ends(alloc, nodes as usize + 1).map_err(|_| GraphFault::Memory)?;
         Ok(EdgeStore {
             rows,
             nodes,
             here,
             edges: 0,
-            ends,
-            open_edges: 0,
-            all_shut: true,
             last_gap: 0,
         })
     }
@@ -165,29 +154,6 @@ impl EdgeStore {
         self.rows.list_pairs(self.edges)
     }
 
-    /// How many edges are open by the stances of their ends. One look.
-    pub fn open_edges(&self) -> u32
-        ensures count { result ≡ open_edges self.now.network self.now.ends }
-        ensures few { result ≤ 1048576 }
-    {
-        self.open_edges
-    }
-
-    /// Sets a name's stance on its edges. At first each name's stance is `Shut`.
-    /// One look if the stance is unchanged, else one look at each neighbour.
-    pub fn set_stance(&mut self, v: Node, end: EdgeStance)
-        requires { v ≤ self.old.network.size }
-        ensures told { end_at self.new.ends v ≡ end }
-        ensures ends { self.new.ends ≡ slice_set self.old.ends v end }
-        ensures network { self.new.network ≡ self.old.network }
-        ensures room { self.new.room ≡ self.old.room }
-    {
-        if self.ends[v.place()] != end {
-            self.all_shut = false;
-            self.open_edges = turn_end(self.rows.row(v), &mut self.ends, self.open_edges, v, end);
-        }
-    }
-
     fn check_ends(&self, a: Node, b: Node) -> Result<(), GraphFault>
         ensures ok { OnOk result (ends_fault self.now.network a b ≡ None) }
         ensures fault { IfErr result (λ fault. ends_fault self.now.network a b ≡ Some fault) }
@@ -247,7 +213,6 @@ impl EdgeStore {
         ensures room { OnOk result (HasRoomFor self.new.room a b) }
         ensures fault { IfErr result (λ fault. fault ≡ Memory) }
         ensures unchanged { self.new.network ≡ self.old.network }
-        ensures ends { self.new.ends ≡ self.old.ends }
     {
         self.rows.reserve_both(a, b).map_err(|_| GraphFault::Memory)
     }
@@ -258,11 +223,9 @@ impl EdgeStore {
         requires gap_in_a { IsGapFor (neighbours self.old.network a) b place_in_a }
         requires gap_in_b { IsGapFor (neighbours self.old.network b) a place_in_b }
         ensures network { self.new.network ≡ with_edge self.old.network a b }
-        ensures ends { self.new.ends ≡ self.old.ends }
     {
         self.rows.put_both(a, place_in_a, b, place_in_b);
         self.edges += 1;
-        self.open_edges += u32::from(are_open(&self.ends, self.all_shut, a, b));
     }
 
     /// Inserts the edge between two nodes: a binary search and a shift in both rows.
@@ -272,7 +235,6 @@ impl EdgeStore {
         ensures ok { OnOk result ((link_fault self.old.network a b ≡ None) × (self.new.network ≡ with_edge self.old.network a b)) }
         ensures fault { IfErr result (λ fault. ExplainsGraphFault (link_fault self.old.network a b) fault) }
         ensures unchanged { OnErr result (self.new.network ≡ self.old.network) }
-        ensures ends { self.new.ends ≡ self.old.ends }
     {
         let place_in_a = self.check_link(a, b)?;
         self.make_room(a, b)?;
@@ -288,7 +250,6 @@ impl EdgeStore {
         ensures ok { OnOk result ((link_fault self.old.network a b ≡ None) × HasRoomFor self.new.room a b) }
         ensures fault { IfErr result (λ fault. ExplainsGraphFault (link_fault self.old.network a b) fault) }
         ensures unchanged { self.new.network ≡ self.old.network }
-        ensures ends { self.new.ends ≡ self.old.ends }
     {
         self.last_gap = self.check_link(a, b)?;
         self.make_room(a, b)
@@ -301,7 +262,6 @@ impl EdgeStore {
         requires free { link_fault self.old.network a b ≡ None }
         requires room { HasRoomFor self.old.room a b }
         ensures network { self.new.network ≡ with_edge self.old.network a b }
-        ensures ends { self.new.ends ≡ self.old.ends }
     {
         let place_in_a = self.guess_gap(a, b);
         let place_in_b = self.find_gap(b, a);
@@ -322,13 +282,11 @@ impl EdgeStore {
     pub fn remove_edge(&mut self, a: Node, b: Node)
         requires { IsTrue (linked self.old.network a b) }
         ensures network { self.new.network ≡ without_edge self.old.network a b }
-        ensures ends { self.new.ends ≡ self.old.ends }
     {
         let place_in_a = self.find_edge(a, b);
         let place_in_b = self.find_edge(b, a);
         self.rows.take_both(a, place_in_a, b, place_in_b);
         self.edges -= 1;
-        self.open_edges -= u32::from(are_open(&self.ends, self.all_shut, a, b));
     }
 
     /// Removes the edge between two nodes: binary searches and a shift in both rows.
@@ -337,7 +295,6 @@ impl EdgeStore {
         ensures ok { OnOk result ((unlink_fault self.old.network a b ≡ None) × (self.new.network ≡ without_edge self.old.network a b)) }
         ensures fault { IfErr result (λ fault. unlink_fault self.old.network a b ≡ Some fault) }
         ensures unchanged { OnErr result (self.new.network ≡ self.old.network) }
-        ensures ends { self.new.ends ≡ self.old.ends }
     {
         self.check_ends(a, b)?;
         if !self.linked(a, b) {
@@ -353,7 +310,6 @@ impl EdgeStore {
         ensures ok { OnOk result ((join_fault self.old.network v ≡ None) × (self.new.network ≡ with_node self.old.network v)) }
         ensures fault { IfErr result (λ fault. join_fault self.old.network v ≡ Some fault) }
         ensures unchanged { OnErr result (self.new.network ≡ self.old.network) }
-        ensures ends { self.new.ends ≡ self.old.ends }
     {
         if v.name() > self.nodes {
             return Err(GraphFault::UnknownNode);
@@ -379,7 +335,6 @@ impl EdgeStore {
         ensures ok { OnOk result ((leave_fault self.old.network v ≡ None) × (self.new.network ≡ without_node self.old.network v)) }
         ensures fault { IfErr result (λ fault. leave_fault self.old.network v ≡ Some fault) }
         ensures unchanged { OnErr result (self.new.network ≡ self.old.network) }
-        ensures ends { self.new.ends ≡ self.old.ends }
     {
         if !self.has(v) {
             return Err(GraphFault::UnknownNode);
@@ -398,7 +353,6 @@ impl EdgeStore {
         requires alone { neighbours self.old.network v ≡ [] }
         ensures place { self.new.network ≡ record self.old.network { here = slice_set self.old.network.here v false } }
         ensures node { self.new.network ≡ without_node self.old.network v }
-        ensures ends { self.new.ends ≡ self.old.ends }
     {
         self.here.remove(v);
     }

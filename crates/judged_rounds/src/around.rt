@@ -1,12 +1,14 @@
 //! Marks the names whose rules an entry may enable or disable.
 
-ghost use Rattle.std.specs.Prelude.{◌≡◌, ◌+◌, ◌&&◌, ◌||◌, length, nat_eq};
-ghost use Rattle.std.specs.List.{list_any};
+ghost use Rattle.std.specs.Prelude.{◌≡◌, ◌+◌, ◌&&◌, ◌||◌, length, nat_eq, IsTrue};
+ghost use Rattle.std.specs.List.{All, list_any};
+ghost use Rattle.rule_machine.specs.Network.{present};
 ghost use Rattle.graph_store.specs.Rows.{has};
 ghost use Rattle.rule_machine.specs.State.{points};
-ghost use Rattle.judged_rounds.specs.Around.{MarksAll, is_affected_by, is_due, is_near, is_near_several, is_near_suitor};
+ghost use Rattle.judged_rounds.specs.Around.{MarksAll, is_affected, is_affected_by, is_near, is_near_suitor, is_touched, is_watcher};
 
 use enabled_set::Marks;
+use net_state::NetState;
 use reply_checker::Judge;
 use rule_machine::{Event, Moved, Node, Reply};
 
@@ -30,43 +32,69 @@ fn mark_row(due: &mut Marks, size: u32, row: &[Node])
 }
 
 /// Marks a name and its neighbours.
-fn mark_near(due: &mut Marks, size: u32, judge: &Judge, v: Node)
+fn mark_near(due: &mut Marks, size: u32, net: &NetState, v: Node)
     requires { length due.old ≡ size + 1 }
-    ensures { MarksAll size (is_near judge.now v) due.old due.new }
+    ensures { MarksAll size (is_near net.now.state v) due.old due.new }
 {
     mark(due, size, v);
-    let store = judge.store();
+    let store = net.store();
     if store.has(v) {
         mark_row(due, size, store.neighbours(v));
     }
 }
 
-/// Marks the names near those of a list that point at `v`.
-fn mark_suitors(due: &mut Marks, size: u32, judge: &Judge, v: Node, row: &[Node])
-    requires { length due.old ≡ size + 1 }
-    ensures { MarksAll size (λ u. list_any (λ w. is_near_suitor judge.now v w u) row.now) due.old due.new }
+/// Marks the names of a list that are not in a pair with a node other than `v`.
+fn mark_watchers(due: &mut Marks, size: u32, net: &NetState, v: Node, row: &[Node])
+    requires places { length due.old ≡ size + 1 }
+    requires present { All (λ w. IsTrue (present net.now.state.network w)) row.now }
+    ensures { MarksAll size (λ u. list_any (λ w. is_watcher net.now.state v w u) row.now) due.old due.new }
 {
     for &w in row {
-        if judge.points(w, v) {
-            mark_near(due, size, judge, w);
+        if !net.married(w) || net.points(w, v) {
+            mark(due, size, w);
         }
     }
 }
 
-fn mark_leaving(due: &mut Marks, size: u32, judge: &Judge, v: Node)
+/// Marks a name and those of its neighbours whose rules may depend on its registers: a node in a pair looks at
+/// its partner alone.
+fn mark_touched(due: &mut Marks, size: u32, net: &NetState, v: Node)
     requires { length due.old ≡ size + 1 }
-    ensures { MarksAll size (is_affected_by judge.now (Event.Leave v)) due.old due.new }
+    ensures { MarksAll size (is_touched net.now.state v) due.old due.new }
 {
-    mark_near(due, size, judge, v);
-    let store = judge.store();
+    mark(due, size, v);
+    let store = net.store();
     if store.has(v) {
-        mark_suitors(due, size, judge, v, store.neighbours(v));
+        mark_watchers(due, size, net, v, store.neighbours(v));
     }
 }
 
-fn mark_disturbed(due: &mut Marks, size: u32, judge: &Judge, event: &Event)
+/// Marks the names near those of a list that point at `v`.
+fn mark_suitors(due: &mut Marks, size: u32, net: &NetState, v: Node, row: &[Node])
     requires { length due.old ≡ size + 1 }
-    ensures { MarksAll size (is_affected_by judge.now event.now) due.old due.new }
+    ensures { MarksAll size (λ u. list_any (λ w. is_near_suitor net.now.state v w u) row.now) due.old due.new }
+{
+    for &w in row {
+        if net.points(w, v) {
+            mark_near(due, size, net, w);
+        }
+    }
+}
+
+fn mark_leaving(due: &mut Marks, size: u32, net: &NetState, v: Node)
+    requires { length due.old ≡ size + 1 }
+    ensures { MarksAll size (is_affected_by net.now.state (Event.Leave v)) due.old due.new }
+{
+    mark_near(due, size, net, v);
+    let store = net.store();
+    if store.has(v) {
+        mark_suitors(due, size, net, v, store.neighbours(v));
+    }
+}
+
+fn mark_disturbed(due: &mut Marks, size: u32, net: &NetState, event: &Event)
+    requires { length due.old ≡ size + 1 }
+    ensures { MarksAll size (is_affected_by net.now.state event.now) due.old due.new }
 {
     match event {
         Event::Link(a, b) => {
@@ -74,43 +102,34 @@ fn mark_disturbed(due: &mut Marks, size: u32, judge: &Judge, event: &Event)
             mark(due, size, *b);
         }
         Event::Unlink(a, b) => {
-            mark_near(due, size, judge, *a);
-            mark_near(due, size, judge, *b);
+            mark_near(due, size, net, *a);
+            mark_near(due, size, net, *b);
         }
-        Event::Point(v, _) | Event::Flag(v, _) => mark_near(due, size, judge, *v),
+        Event::Point(v, _) | Event::Flag(v, _) => mark_touched(due, size, net, *v),
         Event::Join(v) => mark(due, size, *v),
-        Event::Leave(v) => mark_leaving(due, size, judge, *v),
+        Event::Leave(v) => mark_leaving(due, size, net, *v),
         _ => {}
     }
 }
 
-fn mark_moved(due: &mut Marks, size: u32, judge: &Judge, moves: &[Moved])
+fn mark_moved(due: &mut Marks, size: u32, net: &NetState, moves: &[Moved])
     requires { length due.old ≡ size + 1 }
-    ensures { MarksAll size (λ u. list_any (λ m. is_near judge.now m.node u) moves.now) due.old due.new }
+    ensures { MarksAll size (λ u. list_any (λ m. is_touched net.now.state m.node u) moves.now) due.old due.new }
 {
     for moved in moves {
-        mark_near(due, size, judge, moved.node);
+        mark_touched(due, size, net, moved.node);
     }
 }
 
-fn mark_several(due: &mut Marks, size: u32, judge: &Judge, moves: &[Moved])
-    requires { length due.old ≡ size + 1 }
-    ensures { MarksAll size (is_near_several judge.now moves.now) due.old due.new }
-{
-    if moves.len() > 1 {
-        mark_moved(due, size, judge, moves);
-    }
-}
-
-/// Marks the names whose rules an event with this reply may enable or disable in the judge's state, but for
-/// those near a lone mover.
+/// Marks the names whose rules an event with this reply may enable or disable in the judge's state.
 pub(crate) fn mark_affected(due: &mut Marks, size: u32, judge: &Judge, event: &Event, reply: &Reply)
     requires { length due.old ≡ size + 1 }
-    ensures { MarksAll size (is_due judge.now event.now reply.now) due.old due.new }
+    ensures { MarksAll size (is_affected judge.now event.now reply.now) due.old due.new }
 {
+    let net = judge.net();
     match reply {
-        Reply::Accepted => mark_disturbed(due, size, judge, event),
-        Reply::Moves(moves) => mark_several(due, size, judge, moves.as_slice()),
+        Reply::Accepted => mark_disturbed(due, size, net, event),
+        Reply::Moves(moves) => mark_moved(due, size, net, moves.as_slice()),
         _ => {}
     }
 }

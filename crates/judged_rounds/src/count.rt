@@ -8,8 +8,8 @@ ghost use Rattle.rule_machine.specs.State.{State};
 ghost use Rattle.round_counter.specs.Counting.{HasCounted, is_step};
 
 use crate::around::mark_affected;
-use crate::looks::{look_again, look_near_lone};
-use enabled_set::{EnabledSet, Marks};
+use crate::looks::look_again;
+use enabled_set::{EnabledSet, Marks, Removals};
 use reply_checker::Judge;
 use round_counter::RoundCounter;
 use rule_machine::{Event, Reply, RuleSet, Want};
@@ -18,12 +18,14 @@ use std::alloc::Global;
 /// How many rounds are complete in a run that a judge follows, and which nodes are enabled.
 ///
 /// A name is due from the call before an entry, which may enable or disable a rule there, to the call after it.
+/// `removals` has the names that left the set since the last step.
 /// `callers` has for each name the index in its neighbour list of the caller that was found last.
 #[derive(Drop)]
 pub struct JudgedRounds {
     rules: RuleSet,
     size: u32,
     enabled: EnabledSet,
+    removals: Removals,
     due: Marks,
     callers: Vec<u16>,
     counter: RoundCounter,
@@ -32,7 +34,7 @@ pub struct JudgedRounds {
     ghost caller_places: { length callers.items ≡ size + 1 },
 }
 
-/// Lists the pending nodes before a step.
+/// Copies the pending nodes before a step.
 fn begin(counter: &mut RoundCounter, enabled: &EnabledSet, reply: &Reply)
     ensures ready { IsTrue (is_step reply.now) → counter.new.is_new ≡ false }
     ensures rounds { counter.new.rounds ≡ counter.old.rounds }
@@ -61,19 +63,28 @@ impl JudgedRounds {
         ensures rounds { IfOk result (λ it. it.counter.rounds ≡ 0) }
         ensures counts { IfOk result (CountsIn judge.now [] judge.now) }
     {
-        let size = judge.capacity();
+        let size = judge.net().capacity();
         let mut enabled = EnabledSet::new(alloc, size)?;
+        let mut removals = Removals::new(alloc)?;
         let mut due = Marks::new(alloc, size)?;
         due.mark_all();
         let mut callers = vec![in alloc; 0; size as usize + 1]?;
         let counter = RoundCounter::new(alloc)?;
         // Gives the prover `IsState`.
-        let _ = judge.store();
-        look_again(&mut enabled, &mut due, &mut callers, judge, rules);
+        let _ = judge.net();
+        look_again(
+            &mut enabled,
+            &mut removals,
+            &mut due,
+            &mut callers,
+            judge,
+            rules,
+        );
         Ok(JudgedRounds {
             rules,
             size,
             enabled,
+            removals,
             due,
             callers,
             counter,
@@ -87,12 +98,11 @@ impl JudgedRounds {
         self.counter.rounds()
     }
 
-    /// Marks the names whose rules an event with this reply may enable or disable, but for those near a lone
-    /// mover.
+    /// Marks the names whose rules an event with this reply may enable or disable.
     ///
     /// Call it before the judge carries the event out. Cost: a look at each node that the entry changes and at
     /// each of its neighbours; for a node that leaves, also at the neighbours of each node that points at it. At
-    /// a round's beginning, a few looks at each enabled node.
+    /// a round's beginning, a copy of the set of enabled nodes, 64 names at a time.
     pub fn prepare(&mut self, judge: &Judge, event: &Event, reply: &Reply)
         ensures rules { self.new.rules ≡ self.old.rules }
         ensures rounds { self.new.counter.rounds ≡ self.old.counter.rounds }
@@ -105,28 +115,25 @@ impl JudgedRounds {
     /// Counts an entry that `prepare` was called with, after the judge carried it out.
     ///
     /// Cost: for each marked name, a look at the neighbour that called last and, if it no longer calls, at the
-    /// neighbours after it, in turn, up to the next that does; for a step, also a look or two at each mover and
-    /// each of its neighbours.
+    /// neighbours after it, in turn, up to the next that does. For a step, also a look or two at each mover and at
+    /// each name that left the set of enabled nodes since the last step. If these are many, at 64 names at a time.
     pub fn follow(&mut self, judge: &Judge, reply: &Reply)
         ensures rules { self.new.rules ≡ self.old.rules }
         ensures few { self.new.counter.rounds ≤ self.old.counter.rounds + cond (is_step reply.now) 1 0 }
         ensures counts { (start : State) (log : List Entry) (s : State) (event : Event) → IsReadyFor start log s event reply.now self.old → judge.now ≡ followed s event reply.now → self.old.counter.rounds < 4294967295
             → CountsIn (start_after start reply.now judge.now) (log_after log event reply.now) judge.now self.new }
     {
-        look_near_lone(
-            &mut self.enabled,
-            &mut self.callers,
-            judge,
-            self.rules,
-            reply,
-        );
+        // Gives the prover `IsState`.
+        let _ = judge.net();
         look_again(
             &mut self.enabled,
+            &mut self.removals,
             &mut self.due,
             &mut self.callers,
             judge,
             self.rules,
         );
-        self.counter.follow(reply, judge.store(), &self.enabled);
+        self.counter
+            .follow(reply, &self.enabled, &mut self.removals);
     }
 }

@@ -119,9 +119,9 @@ counted_begun t kept board counting none = counted_before t (log_over kept board
 -- counting begins
 pub counting_here : (t : RuleTable) (held after : JournalView) (board : BoardView) (number : ℕ) → IsPublishedJournal t (kept_of held) board → number ≡ last_number (kept_of held) → after ≡ counting_journal t held
     → IsPublishedJournal t (kept_of after) board × IsCountedLog t (log_over (kept_of after) board) (Some number) after.counting
-counting_here t held after board number desk last told =
+counting_here t held after board number published last told =
     subst (λ (j : JournalView). IsPublishedJournal t (kept_of j) board × IsCountedLog t (log_over (kept_of j) board) (Some number) j.counting) (sym told)
-    (desk, counted_here t (log_over (kept_of held) board) number (Some (first_count t held.state)) (last ∙ sym (above_len t (log_over (kept_of held) board) (kept_of held) desk.above)) refl desk.is_log)
+    (published, counted_here t (log_over (kept_of held) board) number (Some (first_count t held.state)) (last ∙ sym (above_len t (log_over (kept_of held) board) (kept_of held) published.above)) refl published.is_log)
 
 -- after a checkpoint
 pub counted_kept : {A E : Type 0} (t : RuleTable) (held after : JournalView) (board : BoardView) (from : Option ℕ) (result : Result A E) → IsCountedLog t (log_over (kept_of held) board) from held.counting

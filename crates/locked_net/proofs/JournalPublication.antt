@@ -1,4 +1,4 @@
--- A desk publishes a run of the rules, and stays a desk after the next entry and after a checkpoint. It is one
+-- A published publishes a run of the rules, and stays a published after the next entry and after a checkpoint. It is one
 -- before any entry.
 use Rattle.locked_net.proofs.Prelude.{◌≡◌, ◌+◌, ◌<◌, ◌≤◌, ℕ, [], ◌∷◌, ◌++◌, length, Some, None, Result, Ok, Err, OnOk, OnErr, inl, refl, sym, ap, ap₂, ◌∙◌, subst, arith, Event, State, RuleTable, Entry, Run, Base, Moment, beginning_with, dropped, IsTable, BoardShape, IsRun, BoardView, StartsAt, IsStart, BeginsIn, JournalView, kept_of, RetainedLog, checkpointed, kept_with, last_number, moment_in, next_entry, whole, empty_log_with, kept_from, max_entries, log_over, IsPublishedJournal}
 use Rattle.locked_net.proofs.RetainedParts.{above_len, recorded_is_log, recorded_size, recorded_above, checkpoint_above}
@@ -9,31 +9,31 @@ use Rattle.locked_net.specs.WholeLogs.{IsWholeLog}
 
 -- the next number is within the limit
 below_limit : (t : RuleTable) (kept : RetainedLog) (board : BoardView) → IsPublishedJournal t kept board → last_number kept < kept.limit → last_number (log_over kept board) < kept.limit
-below_limit t kept board desk below = omega (arith, below, above_len t (log_over kept board) kept desk.above)
+below_limit t kept board published below = omega (arith, below, above_len t (log_over kept board) kept published.above)
 
 -- the board's entries and the next one are a run
 run_more : (t : RuleTable) → IsTable t → (kept : RetainedLog) (board : BoardView) (event : Event) → IsPublishedJournal t kept board → last_number kept < kept.limit → IsRun t board.name.extent (board.list ++ next_entry t kept event ∷ [])
-run_more t table kept board event desk below =
+run_more t table kept board event published below =
     let log = log_over kept board in
     let after = kept_with t log event in
-    let is = recorded_is_log t table log desk.is_log (below_limit t kept board desk below) event in
-    let size = recorded_size t table log desk.is_log event in
-    let places : board.name.extent.places ≡ after.state.network.size + 1 = ap (λ (e : BoardShape). e.places) desk.extent ∙ ap (λ n. n + 1) (sym size) in
-    let present : board.name.extent.present ≡ kept.present = ap (λ (e : BoardShape). e.present) desk.extent in
+    let is = recorded_is_log t table log published.is_log (below_limit t kept board published below) event in
+    let size = recorded_size t table log published.is_log event in
+    let places : board.name.extent.places ≡ after.state.network.size + 1 = ap (λ (e : BoardShape). e.places) published.extent ∙ ap (λ n. n + 1) (sym size) in
+    let present : board.name.extent.present ≡ kept.present = ap (λ (e : BoardShape). e.present) published.extent in
     (after.state.network.size, is.start, moment_in after, places, subst (λ (n : ℕ). StartsAt t after.state.network.size n board.name.extent.base is.start) (sym present) is.begins, is.run)
 
 -- with the entry that is posted
 pub is_run_posted : (t : RuleTable) → IsTable t → (kept : RetainedLog) (board now : BoardView) (event : Event) (entry : Entry) → IsPublishedJournal t kept board → last_number kept < kept.limit → entry ≡ next_entry t kept event → now ≡ record board { posted = entry ∷ [] }
     → IsRun t now.name.extent (now.list ++ now.posted)
-is_run_posted t table kept board now event entry desk below next posted =
+is_run_posted t table kept board now event entry published below next posted =
     subst (λ (b : BoardView). IsRun t b.name.extent (b.list ++ b.posted)) (sym posted)
-    (subst (λ (e : Entry). IsRun t board.name.extent (board.list ++ e ∷ [])) (sym next) (run_more t table kept board event desk below))
+    (subst (λ (e : Entry). IsRun t board.name.extent (board.list ++ e ∷ [])) (sym next) (run_more t table kept board event published below))
 
 -- there is room for one more entry
 pub post_room : (t : RuleTable) (kept : RetainedLog) (board : BoardView) → IsPublishedJournal t kept board → last_number kept < kept.limit → dropped board.name.extent.base + length board.list < max_entries
-post_room t kept board desk below =
-    let most : kept.limit ≤ max_entries = desk.is_log.limit in
-    let few = below_limit t kept board desk below in
+post_room t kept board published below =
+    let most : kept.limit ≤ max_entries = published.is_log.limit in
+    let few = below_limit t kept board published below in
     omega (arith, few, most)
 
 -- the whole log once it is recorded and published
@@ -43,29 +43,29 @@ log_after t kept after board now event entry next told shown =
     ap₂ log_over told (shown ∙ ap (λ (e : Entry). record { list = board.list ++ e ∷ []; posted = []; name = board.name }) next)
 
 -- once it is recorded and published
-pub desk_after : (t : RuleTable) → IsTable t → (kept after : RetainedLog) (board now : BoardView) (event : Event) (entry : Entry) → IsPublishedJournal t kept board → last_number kept < kept.limit → entry ≡ next_entry t kept event → after ≡ kept_with t kept event
+pub published_after : (t : RuleTable) → IsTable t → (kept after : RetainedLog) (board now : BoardView) (event : Event) (entry : Entry) → IsPublishedJournal t kept board → last_number kept < kept.limit → entry ≡ next_entry t kept event → after ≡ kept_with t kept event
     → now ≡ record { list = board.list ++ entry ∷ []; posted = []; name = board.name } → IsPublishedJournal t after now
-desk_after t table kept after board now event entry desk below next told shown =
+published_after t table kept after board now event entry published below next told shown =
     let log = log_over kept board in
-    let size = recorded_size t table log desk.is_log event in
+    let size = recorded_size t table log published.is_log event in
     let there : IsPublishedJournal t (kept_with t kept event) (record { list = board.list ++ next_entry t kept event ∷ []; posted = []; name = board.name }) = record {
-      is_log = recorded_is_log t table log desk.is_log (below_limit t kept board desk below) event;
-      above = recorded_above t table log kept desk.is_log desk.above event;
+      is_log = recorded_is_log t table log published.is_log (below_limit t kept board published below) event;
+      above = recorded_above t table log kept published.is_log published.above event;
       posted = refl;
-      extent = desk.extent ∙ ap (λ (n : ℕ). record { places = n + 1; present = kept.present; base = board.name.extent.base }) (sym size);
+      extent = published.extent ∙ ap (λ (n : ℕ). record { places = n + 1; present = kept.present; base = board.name.extent.base }) (sym size);
     } in
     subst (λ (k : RetainedLog). IsPublishedJournal t k now) (sym told)
     (subst (IsPublishedJournal t (kept_with t kept event)) (sym (shown ∙ ap (λ (e : Entry). record { list = board.list ++ e ∷ []; posted = []; name = board.name }) next)) there)
 
 -- after a checkpoint
-desk_checkpointed : (t : RuleTable) (kept after : RetainedLog) (board : BoardView) → IsPublishedJournal t kept board → after ≡ checkpointed kept → IsPublishedJournal t after board
-desk_checkpointed t kept after board desk told =
+published_checkpointed : (t : RuleTable) (kept after : RetainedLog) (board : BoardView) → IsPublishedJournal t kept board → after ≡ checkpointed kept → IsPublishedJournal t after board
+published_checkpointed t kept after board published told =
     subst (λ (k : RetainedLog). IsPublishedJournal t k board) (sym told)
-    record { is_log = desk.is_log; above = checkpoint_above t (log_over kept board) kept desk.is_log desk.above; posted = desk.posted; extent = desk.extent }
+    record { is_log = published.is_log; above = checkpoint_above t (log_over kept board) kept published.is_log published.above; posted = published.posted; extent = published.extent }
 
-pub desk_kept : {A B : Type 0} (t : RuleTable) (held after : JournalView) (board : BoardView) (result : Result A B) → IsPublishedJournal t (kept_of held) board → OnOk result (kept_of after ≡ checkpointed (kept_of held)) → OnErr result (after ≡ held) → IsPublishedJournal t (kept_of after) board
-desk_kept t held after board (Ok number) desk told same = desk_checkpointed t (kept_of held) (kept_of after) board desk told
-desk_kept t held after board (Err fault) desk told same = subst (λ (h : JournalView). IsPublishedJournal t (kept_of h) board) (sym same) desk
+pub published_kept : {A B : Type 0} (t : RuleTable) (held after : JournalView) (board : BoardView) (result : Result A B) → IsPublishedJournal t (kept_of held) board → OnOk result (kept_of after ≡ checkpointed (kept_of held)) → OnErr result (after ≡ held) → IsPublishedJournal t (kept_of after) board
+published_kept t held after board (Ok number) published told same = published_checkpointed t (kept_of held) (kept_of after) board published told
+published_kept t held after board (Err fault) published told same = subst (λ (h : JournalView). IsPublishedJournal t (kept_of h) board) (sym same) published
 
 -- ---- before any entry
 
@@ -99,9 +99,9 @@ none_is_run t kept log none = (kept.state.network.size, log.start, moment_in kep
 pub blank_log : (kept : RetainedLog) (board : BoardView) → kept.entries ≡ [] → board.list ≡ [] → board.name.extent.base ≡ kept.base → log_over kept board ≡ kept
 blank_log kept board none list base = ap₂ (λ b es. record { state = kept.state; spent = kept.spent; base = b; entries = es; limit = kept.limit; present = kept.present }) base (list ∙ sym none)
 
-pub begun_desk : (t : RuleTable) (kept : RetainedLog) (board : BoardView) → IsWholeLog t kept → kept.entries ≡ []
+pub begun_published : (t : RuleTable) (kept : RetainedLog) (board : BoardView) → IsWholeLog t kept → kept.entries ≡ []
     → (board.list ≡ []) × (board.posted ≡ []) × (board.name.extent ≡ record { places = kept.state.network.size + 1; present = kept.present; base = kept.base }) → IsPublishedJournal t kept board
-begun_desk t kept board log none (list, posted, extent) =
+begun_published t kept board log none (list, posted, extent) =
     let base : board.name.extent.base ≡ kept.base = ap (λ (e : BoardShape). e.base) extent in
     record {
       is_log = subst (IsWholeLog t) (sym (blank_log kept board none list base)) log;

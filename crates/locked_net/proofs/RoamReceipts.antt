@@ -117,10 +117,6 @@ told_back (Behind front seen) told is = sym (ap (λ (f : RoamFault). roam_call_f
 told_back LogFull told is = sym (ap (λ (f : RoamFault). roam_call_fault (Err f)) is)
 told_back Memory told is = sym (ap (λ (f : RoamFault). roam_call_fault (Err f)) is)
 
--- no clerk, no fault
-pub none_ended : (setting : Setting) (turns : ℕ) (clerks : List ClerkView) → clerks ≡ [] → AllEnd setting turns (take 64 clerks) (take 64 clerks) None
-none_ended setting turns clerks none = subst (λ (cs : List ClerkView). AllEnd setting turns (take 64 cs) (take 64 cs) None) (sym none) refl
-
 -- ---- the fault
 
 met_answers : (seen : ℕ) (log : RetainedLog) (chosen : Option ℕ) (fault : CallFault) → FaultBy seen log chosen fault → MayAnswer seen fault

@@ -23,11 +23,11 @@ pub record PublishedJournalView : Type 0 where
 
 -- the same log and board, with the log's end as the base
 abbrev pub based : PublishedJournalView → PublishedJournalView
-based desk = record desk { base = Some (base_of (last_number desk.log) (moment_in desk.log)) }
+based published = record published { base = Some (base_of (last_number published.log) (moment_in published.log)) }
 
 -- the same network, whose rounds are counted from the end of its log on
 abbrev pub counting_held : RuleTable → PublishedJournalView → PublishedJournalView
-counting_held t desk = record desk { counting = Some (first_count t desk.log.state); counted_from = Some (last_number desk.log) }
+counting_held t published = record published { counting = Some (first_count t published.log.state); counted_from = Some (last_number published.log) }
 
 -- The board has published exactly the log; the journal keeps the part of the log above the base. The board
 -- has a place for each name and the unused place 0, and began with the nodes of the log's start.
@@ -45,12 +45,12 @@ pub record IsPublishedJournal (t : RuleTable) (kept : RetainedLog) (board : Boar
 abbrev pub name_from : NetKey → BoardName
 name_from key = record { book = key.opening.book; extent = record { places = key.nodes + 1; present = key.present; base = key.beginning } }
 
-pub record IsOfKey (key : NetKey) (desk : PublishedJournalView) : Type 0 where
-  pub nodes : desk.log.state.network.size ≡ key.nodes
-  pub present : desk.log.present ≡ key.present
-  pub begun : desk.log.base ≡ key.beginning
-  pub limit : desk.log.limit ≡ key.limit
-  pub name : desk.name ≡ name_from key
+pub record IsOfKey (key : NetKey) (published : PublishedJournalView) : Type 0 where
+  pub nodes : published.log.state.network.size ≡ key.nodes
+  pub present : published.log.present ≡ key.present
+  pub begun : published.log.base ≡ key.beginning
+  pub limit : published.log.limit ≡ key.limit
+  pub name : published.name ≡ name_from key
 
 -- Names, nodes at the start, beginning, limit, board and base are unchanged. Rounds are counted after the call
 -- if and only if they were counted before, and counting began at the same entry.

@@ -130,13 +130,17 @@ AllTakeTurns setting turns [] [] = Unit {0}
 AllTakeTurns setting turns (old ∷ olds) (new ∷ news) = EndsOnLog setting turns old new None × AllTakeTurns setting turns olds news
 AllTakeTurns setting turns olds news = ⊥
 
--- Each clerk roamed. The fault is the first that a clerk met, in the clerks' order; none if each clerk took
--- all its turns.
+-- Each clerk ended as `Ends` says of its entry in the row, the clerk and its fault, if it met one. The last is the
+-- first fault that a clerk met, in the clerks' order; none if no clerk met one.
+abbrev pub FirstFault : {A : Type 0} → (A → ClerkView → Option CallFault → Type 0) → List A → List ClerkView → Option CallFault → Type 0
+FirstFault Ends [] [] fault = fault ≡ None
+FirstFault Ends (x ∷ xs) (clerk ∷ clerks) fault =
+    (own : Option CallFault) × (others : Option CallFault) × (fault ≡ option_or own others) × Ends x clerk own × FirstFault Ends xs clerks others
+FirstFault Ends xs clerks fault = ⊥
+
+-- each clerk roamed, and this is the first fault
 abbrev pub AllEnd : Setting → ℕ → List ClerkView → List ClerkView → Option CallFault → Type 0
-AllEnd setting turns [] [] fault = fault ≡ None
-AllEnd setting turns (old ∷ olds) (new ∷ news) fault =
-    (own : Option CallFault) × (others : Option CallFault) × (fault ≡ option_or own others) × EndsOnLog setting turns old new own × AllEnd setting turns olds news others
-AllEnd setting turns olds news fault = ⊥
+AllEnd setting turns = FirstFault (EndsOnLog setting turns)
 
 -- a call's fault as a fault of roaming
 abbrev pub roam_fault : CallFault → RoamFault

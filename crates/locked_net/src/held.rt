@@ -25,7 +25,7 @@ mod rounds;
 /// part; the board's name; the count of rounds, if they are counted; and after which entry counting began.
 pub struct HeldNet<'a, R: Rules> {
     net: &'a LockedNet<R>,
-    desk: Box<PublishedJournal<R>>,
+    published: Box<PublishedJournal<R>>,
     hold: Hold<Box<PublishedJournal<R>>, NetKey>,
 }
 
@@ -41,9 +41,9 @@ impl<'a, R: Rules> Model for HeldNet<'a, R> {
 
     ghost coded = { Prim.hlevel (codes, state_code, book_coded) };
 
-    ghost view = { λ h. h.desk.value };
+    ghost view = { λ h. h.published.value };
 
-    ghost invariant = { λ h. IsOfKey (net_key_of h.net.now) h.desk.value × IsHoldOf h.net.now.lock h.hold };
+    ghost invariant = { λ h. IsOfKey (net_key_of h.net.now) h.published.value × IsHoldOf h.net.now.lock h.hold };
 }
 
 impl<R: Rules> LockedNet<R> {
@@ -52,11 +52,11 @@ impl<R: Rules> LockedNet<R> {
         ensures own { IsLogIn (setting_of R.table self.now) result.log }
         ensures name { result.name ≡ name_of self.now }
     {
-        let (desk, hold) = self.take(rt);
-        desk.is_run();
+        let (published, hold) = self.take(rt);
+        published.is_run();
         HeldNet {
             net: self,
-            desk,
+            published,
             hold,
         }
     }
@@ -65,7 +65,11 @@ impl<R: Rules> LockedNet<R> {
 impl<R: Rules> HeldNet<'_, R> {
     /// Frees the lock.
     pub fn free(self) {
-        let HeldNet { net, desk, hold } = self;
-        net.give(hold, desk);
+        let HeldNet {
+            net,
+            published,
+            hold,
+        } = self;
+        net.give(hold, published);
     }
 }

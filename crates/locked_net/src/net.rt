@@ -207,12 +207,12 @@ impl<R: Rules> LockedNet<R> {
     pub(crate) fn give(
         &self,
         hold: Hold<Box<PublishedJournal<R>>, NetKey>,
-        desk: Box<PublishedJournal<R>>,
+        published: Box<PublishedJournal<R>>,
     )
-        requires key { IsOfKey (net_key_of self.now) desk.value }
+        requires key { IsOfKey (net_key_of self.now) published.value }
         requires hold { IsHoldOf self.now.lock hold }
     {
-        self.lock.give(hold, desk);
+        self.lock.give(hold, published);
     }
 
     /// The journal of a network that no thread shares; the log is a run of the rule machine.
@@ -226,7 +226,7 @@ impl<R: Rules> LockedNet<R> {
         ensures present { result.present ≡ first_nodes_of self }
         ensures limit { result.limit ≡ log_limit_of self }
     {
-        self.into_desk(rt).close(rt)
+        self.into_published(rt).close(rt)
     }
 
     /// The journal of a network that no thread shares, with a note of the published log.
@@ -238,12 +238,12 @@ impl<R: Rules> LockedNet<R> {
         ensures present { result.0.present ≡ first_nodes_of self }
         ensures limit { result.0.limit ≡ log_limit_of self }
     {
-        let desk = self.into_desk(rt);
-        let last = desk.note();
-        (desk.close(rt), last)
+        let published = self.into_published(rt);
+        let last = published.note();
+        (published.close(rt), last)
     }
 
-    fn into_desk<W: Wait>(self, rt: &W) -> PublishedJournal<R>
+    fn into_published<W: Wait>(self, rt: &W) -> PublishedJournal<R>
         ensures { IsOfKey (net_key_of self) result }
     {
         let LockedNet {
@@ -259,18 +259,18 @@ impl<R: Rules> LockedNet<R> {
 pub(crate) fn lock<R: Rules, W: Wait>(
     alloc: Global,
     rt: &W,
-    desk: PublishedJournal<R>,
+    published: PublishedJournal<R>,
     key: &NetKey,
 ) -> Result<LockedNet<R>, AllocError>
-    requires { IsOfKey key.now desk }
+    requires { IsOfKey key.now published }
     ensures { IfOk result (λ net. key_of net.lock ≡ key.now) }
 {
     let start = number_of(&key.beginning);
-    let desk = boxed(alloc, rt, desk)?;
-    match KeyedLock::new(alloc, desk, key) {
+    let published = boxed(alloc, rt, published)?;
+    match KeyedLock::new(alloc, published, key) {
         Ok(lock) => Ok(LockedNet { alloc, lock, start }),
-        Err(AllocFailed { value: desk }) => {
-            Box::into_inner(desk).close(rt);
+        Err(AllocFailed { value: published }) => {
+            Box::into_inner(published).close(rt);
             Err(AllocError)
         }
     }
@@ -288,14 +288,14 @@ fn number_of(base: &Option<Base>) -> Option<u32>
 fn boxed<R: Rules, W: Wait>(
     alloc: Global,
     rt: &W,
-    desk: PublishedJournal<R>,
+    published: PublishedJournal<R>,
 ) -> Result<Box<PublishedJournal<R>>, AllocError>
-    ensures { IfOk result (λ boxed. boxed.value ≡ desk) }
+    ensures { IfOk result (λ boxed. boxed.value ≡ published) }
 {
-    match Box::new(alloc, desk) {
+    match Box::new(alloc, published) {
         Ok(boxed) => Ok(boxed),
-        Err(AllocFailed { value: desk }) => {
-            desk.close(rt);
+        Err(AllocFailed { value: published }) => {
+            published.close(rt);
             Err(AllocError)
         }
     }

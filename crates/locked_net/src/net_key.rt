@@ -25,5 +25,5 @@ pub(crate) struct KeyInvariant;
 impl<R: Rules> Invariant<Box<PublishedJournal<R>>, NetKey> for KeyInvariant {
     ghost use Rattle.locked_net.specs.PublishedJournals.{IsOfKey};
 
-    ghost holds = { λ key desk. IsOfKey key desk.value };
+    ghost holds = { λ key published. IsOfKey key published.value };
 }

@@ -1,6 +1,6 @@
 //! What a network's lock guards.
 
-ghost use Rattle.std.specs.Prelude.{◌≡◌, ◌+◌, ◌↔◌, [], length, IfOk, None, IfSome, OnOk, OnErr, IsErrOf, IsTrue};
+ghost use Rattle.std.specs.Prelude.{◌≡◌, ◌+◌, ◌<◌, ◌++◌, ◌∷◌, ◌↔◌, [], length, IfOk, None, IfSome, OnOk, OnErr, IsErrOf, IsTrue, vec_capacity};
 ghost use Rattle.rule_machine.specs.declared.event.Event.TheVariants.{Step};
 ghost use Rattle.round_laws.specs.RoundCounts.{next_counting};
 ghost use Rattle.rule_engine.specs.ChoiceMoves.{verdicts_of};
@@ -58,10 +58,9 @@ impl<R: Rules> Model for PublishedJournal<R> {
     ghost invariant = { λ d. IsPublishedJournal R.table (kept_of d.journal) d.board × IsCountedLog R.table (log_over (kept_of d.journal) d.board) d.counted_from d.journal.counting };
 }
 
+/// The reply to an event; the note ends with the event's entry.
 #[derive(Drop)]
-/// The result of an event; the note ends with the receipt's entry.
 pub(crate) struct RecordedEvent {
-    pub(crate) receipt: Receipt,
     pub(crate) reply: Reply,
     pub(crate) note: Note,
 }
@@ -80,10 +79,10 @@ impl<R: Rules> PublishedJournal<R> {
         requires present { journal.present ≡ present }
         requires base { journal.base ≡ base.now }
         requires counted { IfSome base.now (λ b. present ≡ length b.nodes) }
-        ensures log { IfOk result (λ desk. desk.log ≡ kept_of journal) }
-        ensures counting { IfOk result (λ desk. desk.counting ≡ journal.counting) }
-        ensures from { IfOk result (λ desk. desk.counted_from ≡ None) }
-        ensures extent { IfOk result (λ desk. desk.name.extent ≡ record { places = journal.state.network.size + 1; present = present; base = base.now }) }
+        ensures log { IfOk result (λ published. published.log ≡ kept_of journal) }
+        ensures counting { IfOk result (λ published. published.counting ≡ journal.counting) }
+        ensures from { IfOk result (λ published. published.counted_from ≡ None) }
+        ensures extent { IfOk result (λ published. published.name.extent ≡ record { places = journal.state.network.size + 1; present = present; base = base.now }) }
     {
         let places = journal.net().store().capacity() as usize + 1;
         let board = board_at(alloc, places, present, base)?;
@@ -140,14 +139,17 @@ impl<R: Rules> PublishedJournal<R> {
         self.board.note()
     }
 
-    /// After a fault nothing has changed.
+    /// Appends the receipt, for which there is room. After a fault nothing has changed.
     pub(crate) fn record<W: Wait>(
         &mut self,
         rt: &W,
         event: Event,
+        receipts: &mut Vec<Receipt>,
     ) -> Result<RecordedEvent, RecordFault>
+        requires room { length receipts.old.items < vec_capacity receipts.old }
         ensures log { OnOk result (self.new.log ≡ kept_with R.table self.old.log event) }
-        ensures receipt { IfOk result (λ told. told.receipt ≡ next_receipt R.table self.old.log event) }
+        ensures receipt { OnOk result (receipts.new.items ≡ receipts.old.items ++ next_receipt R.table self.old.log event ∷ []) }
+        ensures same_receipts { OnErr result (receipts.new.items ≡ receipts.old.items) }
         ensures reply { IfOk result (λ told. told.reply ≡ (next_receipt R.table self.old.log event).reply) }
         ensures note { IfOk result (λ told. (told.note.log ≡ self.new.log.entries) × (told.note.book ≡ self.old.name.book) × (told.note.base ≡ self.old.log.base)) }
         ensures full { IsErrOf result LogFull → last_number self.old.log ≡ self.old.log.limit }
@@ -156,7 +158,7 @@ impl<R: Rules> PublishedJournal<R> {
         ensures counting { IfOk result (λ told. self.new.counting ≡ next_counting R.table told.reply self.new.log.state self.old.counting) }
     {
         let prepared = self.journal.prepare(event)?;
-        Ok(finish(&mut self.journal, &mut self.board, rt, prepared)?)
+        Ok(finish(&mut self.journal, &mut self.board, rt, prepared, receipts)?)
     }
 
     pub(crate) fn record_step<W: Wait>(
@@ -164,10 +166,13 @@ impl<R: Rules> PublishedJournal<R> {
         rt: &W,
         choice: Choice,
         verdicts: &[Verdict],
+        receipts: &mut Vec<Receipt>,
     ) -> Result<RecordedEvent, RecordFault>
-        requires { verdicts.now ≡ verdicts_of R.table self.old.log.state choice }
+        requires verdicts { verdicts.now ≡ verdicts_of R.table self.old.log.state choice }
+        requires room { length receipts.old.items < vec_capacity receipts.old }
         ensures log { OnOk result (self.new.log ≡ kept_with R.table self.old.log (Step choice)) }
-        ensures receipt { IfOk result (λ told. told.receipt ≡ next_receipt R.table self.old.log (Step choice)) }
+        ensures receipt { OnOk result (receipts.new.items ≡ receipts.old.items ++ next_receipt R.table self.old.log (Step choice) ∷ []) }
+        ensures same_receipts { OnErr result (receipts.new.items ≡ receipts.old.items) }
         ensures reply { IfOk result (λ told. told.reply ≡ (next_receipt R.table self.old.log (Step choice)).reply) }
         ensures note { IfOk result (λ told. (told.note.log ≡ self.new.log.entries) × (told.note.book ≡ self.old.name.book) × (told.note.base ≡ self.old.log.base)) }
         ensures full { IsErrOf result LogFull → last_number self.old.log ≡ self.old.log.limit }
@@ -176,7 +181,7 @@ impl<R: Rules> PublishedJournal<R> {
         ensures counting { IfOk result (λ told. self.new.counting ≡ next_counting R.table told.reply self.new.log.state self.old.counting) }
     {
         let prepared = self.journal.prepare_step(choice, verdicts)?;
-        Ok(finish(&mut self.journal, &mut self.board, rt, prepared)?)
+        Ok(finish(&mut self.journal, &mut self.board, rt, prepared, receipts)?)
     }
 
     /// Published entries stay published.
@@ -239,20 +244,23 @@ fn board_at<R: Rules>(
     }
 }
 
-/// After the entry is posted nothing fails.
+/// After the entry is posted nothing fails. The receipt goes from the journal to its place at once.
 #[inline(always)]
 fn finish<R: Rules, W: Wait>(
     journal: &mut Journal<R>,
     board: &mut Board<Runs<R>>,
     rt: &W,
     prepared: Prepared,
+    receipts: &mut Vec<Receipt>,
 ) -> Result<RecordedEvent, AllocError>
     requires ready { IsNextReceipt R.table journal.old prepared }
-    requires desk { IsPublishedJournal R.table (kept_of journal.old) board.old }
+    requires published { IsPublishedJournal R.table (kept_of journal.old) board.old }
+    requires room { length receipts.old.items < vec_capacity receipts.old }
     ensures log { OnOk result (log_over (kept_of journal.new) board.new ≡ kept_with R.table (log_over (kept_of journal.old) board.old) prepared.event) }
     ensures base { journal.new.base ≡ journal.old.base }
-    ensures desk { IsPublishedJournal R.table (kept_of journal.new) board.new }
-    ensures receipt { IfOk result (λ told. told.receipt ≡ next_receipt R.table (log_over (kept_of journal.old) board.old) prepared.event) }
+    ensures published { IsPublishedJournal R.table (kept_of journal.new) board.new }
+    ensures receipt { OnOk result (receipts.new.items ≡ receipts.old.items ++ next_receipt R.table (log_over (kept_of journal.old) board.old) prepared.event ∷ []) }
+    ensures same_receipts { OnErr result (receipts.new.items ≡ receipts.old.items) }
     ensures reply { IfOk result (λ told. told.reply ≡ prepared.reply) }
     ensures note { IfOk result (λ told. (told.note.log ≡ board.new.list) × (told.note.book ≡ board.old.name.book) × (told.note.base ≡ board.old.name.extent.base)) }
     ensures name { board.new.name ≡ board.old.name }
@@ -264,10 +272,6 @@ fn finish<R: Rules, W: Wait>(
     let entry = prepared.entry();
     board.post(entry)?;
     let note = board.publish(rt, entry);
-    let receipt = journal.commit(prepared);
-    Ok(RecordedEvent {
-        receipt,
-        reply,
-        note,
-    })
+    receipts.push(journal.commit(prepared)).unwrap();
+    Ok(RecordedEvent { reply, note })
 }

@@ -33,7 +33,7 @@ pub(crate) fn settled_with<R: Rules>(
     if !has_count(clerks, len) {
         return Err(SettleFault::CountDiffers);
     }
-    if last_base(journal) != greatest(start, clerks) {
+    if journal.base() != greatest(start, clerks) {
         return Err(SettleFault::BaseDiffers);
     }
     let mut marks = vec![in alloc; false; len]?;
@@ -84,12 +84,6 @@ fn has_count(clerks: &[Clerk], count: usize) -> bool
         left -= receipts.len();
     }
     left == 0
-}
-
-fn last_base<R: Rules>(journal: &Journal<R>) -> Option<u32>
-    ensures { result ≡ base_number journal.now.base }
-{
-    journal.base()
 }
 
 fn greatest(start: Option<u32>, clerks: &[Clerk]) -> Option<u32>

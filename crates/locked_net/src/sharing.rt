@@ -35,8 +35,8 @@ pub(crate) fn share<R: Rules, W: Wait>(
     ensures { IfOk result (λ net. (name_count_of net ≡ journal.state.network.size) × (first_nodes_of net ≡ present) × (log_limit_of net ≡ limit) × (beginning_of net ≡ beginning)) }
 {
     let nodes = journal.net().store().capacity();
-    let desk = PublishedJournal::begin(alloc, journal, present, &beginning)?;
-    let opening = desk.note();
+    let published = PublishedJournal::begin(alloc, journal, present, &beginning)?;
+    let opening = published.note();
     let key = NetKey {
         nodes,
         present,
@@ -44,7 +44,7 @@ pub(crate) fn share<R: Rules, W: Wait>(
         beginning,
         opening,
     };
-    lock(alloc, rt, desk, &key)
+    lock(alloc, rt, published, &key)
 }
 
 /// The network of a journal that begins at the base.

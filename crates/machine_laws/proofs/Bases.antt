@@ -1,5 +1,5 @@
 -- Logs with bases, and runs that go on from a base.
-use Rattle.machine_laws.proofs.Prelude.{◌≡◌, ℕ, ◌+◌, ◌<◌, ◌≤◌, Bool, true, false, cond, ◌&&◌, List, [], ◌∷◌, ◌++◌, length, map, find, nat_eq, None, Some, IsTrue, refl, sym, ap, ◌∙◌, subst, ⊎_elim, arith, get_or, both_ways, list_any, eq_by_cmp, cases_Bool, cases_lt, true≢false, false_from_ne_true, eq-eqb, eqb-true, le-leb, ext_get_or, Network, pair_cmp, present, names, edge_list, State, IsState, pointer, flag, RuleTable, spent_after, Entry, Moment, Run, NodeRecord, Base, node_record_at, node_records, base_of, LogPart, EntryPart, BasePart, NumberedMoment, Passes, entries_in}
+use Rattle.machine_laws.proofs.Prelude.{◌≡◌, ℕ, ◌+◌, ◌<◌, ◌≤◌, Bool, true, false, cond, ◌&&◌, List, [], ◌∷◌, ◌++◌, length, map, find, nat_eq, None, Some, IsTrue, refl, sym, ap, ◌∙◌, subst, ⊎_elim, arith, get_or, both_ways, list_any, eq_by_cmp, cases_Bool, cases_lt, true≢false, false_from_ne_true, eq-eqb, eqb-true, le-leb, ext_get_or, Network, pair_cmp, present, names, edge_list, State, IsState, pointer, flag, RuleTable, spent_after, Entry, Moment, Run, NodeRecord, node_record_at, node_records, base_of, LogPart, EntryPart, BasePart, NumberedMoment, Passes, entries_in}
 use Rattle.std.specs.FinMap as finmap
 use Rattle.machine_laws.proofs.Edges.{pair_total, pair_exact}
 use Rattle.machine_laws.proofs.Neighbours.{option_cases, names_none, names_some, linked_present}
@@ -81,28 +81,24 @@ same_rows s u good good' size same =
 absent_null : (s : State) → IsState s → (v : ℕ) → present s.network v ≡ false → pointer s v ≡ None
 absent_null s good v gone = nothing_left (pointer s v) (λ x e. true≢false (sym (linked_present s.network v x good.is_network (pointer_linked s v x good e)) ∙ gone))
 
-same_pointers : (s u : State) → IsState s → IsState u → s.network.size ≡ u.network.size → node_records s ≡ node_records u → s.registers.pointers ≡ u.registers.pointers
-same_pointers s u good good' size same =
-    let len = good.pointers_len in
-    let len' = good'.pointers_len in
-    ext_get_or None _ _ (omega (arith, len, len', size)) (λ v inside.
-    ⊎_elim
-    (λ (has : present s.network v ≡ true). ap (λ (p : NodeRecord). p.target) (same_place s u same v has))
-    (λ (gone : present s.network v ≡ false). absent_null s good v gone ∙ sym (absent_null u good' v (sym (same_present s u same v) ∙ gone)))
-    (cases_Bool (present s.network v)))
-
 absent_unflagged : (s : State) → IsState s → (v : ℕ) → present s.network v ≡ false → flag s v ≡ false
 absent_unflagged s good v gone = false_from_ne_true (flag s v) (λ h. true≢false (sym (good.flagged_present v h) ∙ gone))
 
+-- two rows are the same if they are at the nodes and elsewhere
+same_row : {X : Type 0} (d : X) (xs ys : List X) (s : State) → length xs ≡ length ys → ((v : ℕ) → present s.network v ≡ true → get_or xs v d ≡ get_or ys v d) → ((v : ℕ) → present s.network v ≡ false → get_or xs v d ≡ get_or ys v d) → xs ≡ ys
+same_row d xs ys s len here elsewhere = ext_get_or d xs ys len (λ v inside. ⊎_elim (here v) (elsewhere v) (cases_Bool (present s.network v)))
+
+same_pointers : (s u : State) → IsState s → IsState u → s.network.size ≡ u.network.size → node_records s ≡ node_records u → s.registers.pointers ≡ u.registers.pointers
+same_pointers s u good good' size same =
+    same_row None s.registers.pointers u.registers.pointers s (omega (arith, good.pointers_len, good'.pointers_len, size))
+    (λ v has. ap (λ (p : NodeRecord). p.target) (same_place s u same v has))
+    (λ v gone. absent_null s good v gone ∙ sym (absent_null u good' v (sym (same_present s u same v) ∙ gone)))
+
 same_flags : (s u : State) → IsState s → IsState u → s.network.size ≡ u.network.size → node_records s ≡ node_records u → s.registers.flags ≡ u.registers.flags
 same_flags s u good good' size same =
-    let len = good.flags_len in
-    let len' = good'.flags_len in
-    ext_get_or false _ _ (omega (arith, len, len', size)) (λ v inside.
-    ⊎_elim
-    (λ (has : present s.network v ≡ true). ap (λ (p : NodeRecord). p.flagged) (same_place s u same v has))
-    (λ (gone : present s.network v ≡ false). absent_unflagged s good v gone ∙ sym (absent_unflagged u good' v (sym (same_present s u same v) ∙ gone)))
-    (cases_Bool (present s.network v)))
+    same_row false s.registers.flags u.registers.flags s (omega (arith, good.flags_len, good'.flags_len, size))
+    (λ v has. ap (λ (p : NodeRecord). p.flagged) (same_place s u same v has))
+    (λ v gone. absent_unflagged s good v gone ∙ sym (absent_unflagged u good' v (sym (same_present s u same v) ∙ gone)))
 
 same_edges : (net more : Network) → edge_list net ≡ edge_list more → net.edges ≡ more.edges
 same_edges net more same =

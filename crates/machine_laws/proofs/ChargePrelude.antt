@@ -21,7 +21,6 @@ pub use Rattle.machine_laws.proofs.AcceptedEvents.{cond_none, none_cond, true_fr
 pub use Rattle.machine_laws.proofs.Bases.{base_tells}
 pub use Rattle.machine_laws.proofs.Edges.{left_was, removed_was, inserted_cases, present_other, still_present, pair_total, pair_exact, contains-remove}
 pub use Rattle.machine_laws.proofs.EnabledNodes.{no_act, quiet_at, quiet_from}
-pub use Rattle.machine_laws.proofs.HalfMatchings.{stable_is_half}
 pub use Rattle.machine_laws.proofs.LeastAnswers.{makes_move_of}
 pub use Rattle.machine_laws.proofs.LeastMoves.{IsTable, find_passes}
 pub use Rattle.machine_laws.proofs.Leaves.{without_pointer_stays, nothing_left}

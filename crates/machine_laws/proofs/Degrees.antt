@@ -1,6 +1,6 @@
 -- How many edges a node has, and how many edges have an end at one of two nodes.
-use Rattle.machine_laws.proofs.ChargePrelude.{◌≡◌, ℕ, ◌+◌, ◌≤◌, ◌<◌, min, max, edge, Bool, true, false, cond, not, ◌&&◌, ◌||◌, List, count_by, sum_by, nat_eq, IsTrue, refl, sym, ap, ◌∙◌, arith, and_from, or_left, or_right, eq-eqb, ne_eqb, Network, IsNetwork, is_end, linked, neighbours, edge_list, degree}
-use Rattle.machine_laws.proofs.ListCounts.{none_count, one_count, at_most_one, count_all, count_agree, sum_add, sum_agree}
+use Rattle.machine_laws.proofs.ChargePrelude.{◌≡◌, ℕ, ◌+◌, ◌≤◌, ◌<◌, min, max, edge, true, false, not, ◌&&◌, ◌||◌, count_by, nat_eq, IsTrue, refl, sym, ap, ◌∙◌, arith, and_from, or_left, or_right, eq-eqb, ne_eqb, Network, IsNetwork, is_end, linked, neighbours, edge_list, degree}
+use Rattle.machine_laws.proofs.ListCounts.{count_split, count_either, none_count, one_count, at_most_one, count_all, count_agree}
 use Rattle.machine_laws.proofs.Members.{in_edges, edges_contain}
 use Rattle.machine_laws.proofs.EdgesByNodes.{edges_without_repeats}
 use Rattle.machine_laws.proofs.EdgesByEnds.{one_node_changes}
@@ -27,18 +27,7 @@ joins net v w near = grind (arith, one_count, in_edges, and_from, or_left, eq-eq
 -- Two nodes together have as many edges as their degrees sum to, less one if they are linked.
 pub at_either : (net : Network) → IsNetwork net → (v w : ℕ) → count_by (λ e. is_end v e || is_end w e) (edge_list net) + count_by (λ e. is_end v e && is_end w e) (edge_list net) ≡ degree net v + degree net w
 at_either net good v w =
-    let le = sum_add (λ e. cond (is_end v e || is_end w e) 1 0) (λ e. cond (is_end v e && is_end w e) 1 0) (edge_list net) in
-    let each = agree (edge_list net) in
-    let ends = sum_add (λ (e : ℕ × ℕ). cond (is_end v e) 1 0) (λ e. cond (is_end w e) 1 0) (edge_list net) in
-    let first = edges_at net good v in
-    let second = edges_at net good w in
-    omega (arith, le, each, ends, first, second)
-  where
-    one : (b c : Bool) → ◌≡◌ {A = ℕ} (cond (b || c) 1 0 + cond (b && c) 1 0) (cond b 1 0 + cond c 1 0)
-    one b c = grind arith
-
-    agree : (es : List (ℕ × ℕ)) → sum_by (λ e. cond (is_end v e || is_end w e) 1 0 + cond (is_end v e && is_end w e) 1 0) es ≡ sum_by (λ e. cond (is_end v e) 1 0 + cond (is_end w e) 1 0) es
-    agree es = sum_agree (λ e. cond (is_end v e || is_end w e) 1 0 + cond (is_end v e && is_end w e) 1 0) (λ e. cond (is_end v e) 1 0 + cond (is_end w e) 1 0) (λ e. one (is_end v e) (is_end w e)) es
+    omega (arith, count_either (is_end v) (is_end w) (edge_list net), edges_at net good v, edges_at net good w)
 
 pub at_linked : (net : Network) → IsNetwork net → (v w : ℕ) → IsTrue (linked net v w) → count_by (λ e. is_end v e || is_end w e) (edge_list net) + 1 ≤ degree net v + degree net w
 at_linked net good v w near = grind (arith, at_either, joins)
@@ -46,14 +35,7 @@ at_linked net good v w near = grind (arith, at_either, joins)
 -- a node's edges but one
 pub at_one : (net : Network) → IsNetwork net → (v w : ℕ) → IsTrue (linked net v w) → count_by (λ e. is_end v e && not (is_end w e)) (edge_list net) + 1 ≤ degree net v
 at_one net good v w near =
-    let both = sum_add (λ e. cond (is_end v e && not (is_end w e)) 1 0) (λ e. cond (is_end v e && is_end w e) 1 0) (edge_list net) in
-    let each = sum_agree (λ e. cond (is_end v e && not (is_end w e)) 1 0 + cond (is_end v e && is_end w e) 1 0) (λ e. cond (is_end v e) 1 0) (λ e. one (is_end v e) (is_end w e)) (edge_list net) in
-    let ends = edges_at net good v in
-    let some = joins net v w near in
-    omega (arith, both, each, ends, some)
-  where
-    one : (b c : Bool) → ◌≡◌ {A = ℕ} (cond (b && not c) 1 0 + cond (b && c) 1 0) (cond b 1 0)
-    one b c = grind arith
+    omega (arith, count_split (is_end v) (is_end w) (edge_list net), edges_at net good v, joins net v w near)
 
 -- an edge with two given ends is one
 pub one_between : (net : Network) → IsNetwork net → (v u : ℕ) → (v ≡ u → ⊥) → count_by (λ e. is_end v e && is_end u e) (edge_list net) ≤ 1

@@ -1,6 +1,6 @@
 -- How many edges are left at a node after one of its edges is removed, or a neighbour leaves.
 use Rattle.machine_laws.proofs.ChargePrelude.{◌≡◌, ℕ, ◌-◌, ◌≤◌, Bool, false, not, ◌&&◌, ◌||◌, nat_eq, IsTrue, sym, ◌∙◌, linked_apart, arith, is_end, linked, present, edge_list, State, IsState, pointer, after_unlink, after_leave, linked_back, pointer_linked, left_was, unlink_keeps, leave_keeps, degree, degree_at}
-use Rattle.machine_laws.proofs.ListCounts.{IsIn, count_into}
+use Rattle.machine_laws.proofs.ListCounts.{IsIn, count_within}
 use Rattle.machine_laws.proofs.Members.{edges_contain}
 use Rattle.machine_laws.proofs.EdgesByNodes.{edges_without_repeats}
 use Rattle.machine_laws.proofs.Degrees.{edges_at, at_one}
@@ -9,11 +9,7 @@ use Rattle.machine_laws.proofs.Disturbed.{IsSubNetwork, uncrossed, unlink_within
 -- a node has fewer edges if none of those that are left joins it to a neighbour
 degree_falls : (s s' : State) (v u : ℕ) → IsState s → IsState s' → IsSubNetwork s.network s'.network → IsTrue (linked s.network v u) → ((a b : ℕ) → IsIn (a, b) (edge_list s'.network) → (is_end v (a, b) && not (is_end u (a, b))) ≡ is_end v (a, b)) → degree s'.network v ≤ degree s.network v - 1
 degree_falls s s' v u good good' within near apart =
-    let into = count_into (is_end v) (edge_list s'.network) (λ (e : ℕ × ℕ). e) (λ e. is_end v e && not (is_end u e)) (edge_list s.network) (edges_without_repeats s'.network) (record {
-      lands = λ e there h. within.edges e there;
-      passes = λ e there h. apart e.0 e.1 there ∙ h;
-      apart = λ x y there also h k same. same;
-    }) in
+    let into = count_within (is_end v) (λ e. is_end v e && not (is_end u e)) (edge_list s'.network) (edge_list s.network) (edges_without_repeats s'.network) (λ e there h. (within.edges e there, apart e.0 e.1 there ∙ h)) in
     omega (arith, edges_at s'.network good'.is_network v, into, at_one s.network good.is_network v u near, edges_at s.network good.is_network v)
 
 alone : (a b x y : ℕ) → (a ≡ b → ⊥) → ((nat_eq x a && nat_eq y b) || (nat_eq x b && nat_eq y a)) ≡ false → (is_end a (x, y) && not (is_end b (x, y))) ≡ is_end a (x, y)

@@ -1,7 +1,7 @@
 -- What a disturbance leaves of a state, and how far that raises the charge: the part that is the same under
 -- all rules.
 use Rattle.machine_laws.proofs.ChargePrelude.{◌≡◌, ◌≢◌, ℕ, ◌+◌, ◌*◌, ◌<◌, ◌≤◌, Bool, true, false, cond, not, ◌&&◌, ◌||◌, List, [], ◌∷◌, map, count_by, sum_by, nat_eq, Option, None, Some, IsTrue, refl, sym, ap, ◌∙◌, subst, inl, inr, ⊎_elim, ◌⊎◌, arith, cases_eq, true≢false, sum_by-cons, get_or-map, cond-false, ne_eqb, Network, IsNetwork, is_at, degree, degree_at, edge, is_end, present, names, edge_list, State, IsState, Registers, pointer, pointer_of, is_unanswered, holds_at, points, after_link, after_join, after_point, after_unlink, after_leave, without_pointer, min, max, inserted_cases, unless_at, removed_was, left_was, present_other, without_pointer_was, without_pointer_gone, pointer-with_pointer_other, pointer-with_pointer_same, without_pointer_stays, left_pointer, present_range, nothing_left, none-some, false_from_ne_true, unlink_keeps}
-use Rattle.machine_laws.proofs.ListCounts.{IsIn, IsWithoutRepeats, without, in_without, count_agree, none_count, once}
+use Rattle.machine_laws.proofs.ListCounts.{count_or, IsIn, IsWithoutRepeats, without, in_without, count_agree, none_count, once}
 use Rattle.std.specs.FinMap as finmap
 use Rattle.machine_laws.proofs.EdgeChanges.{taken_out}
 use Rattle.machine_laws.proofs.Members.{in_names, names_present, in_edges, edges_contain, names_without_repeats}
@@ -81,10 +81,6 @@ no_nodes xs = none_count (λ x. false) xs (λ x there. refl)
 
 pub no_edges : (es : List (ℕ × ℕ)) → count_by (λ e. false) es ≡ 0
 no_edges es = none_count (λ e. false) es (λ e there. refl)
-
-pub count_or : {X : Type 0} (p q : X → Bool) (xs : List X) → count_by (λ x. p x || q x) xs ≤ count_by p xs + count_by q xs
-count_or p q [] = omega arith
-count_or p q (x ∷ xs) = grind (arith, count_or p q xs, sum_by-cons (λ y. bit (p y || q y)) x xs, sum_by-cons (λ y. bit (p y)) x xs, sum_by-cons (λ y. bit (q y)) x xs)
 
 -- the edges at a node if the test holds, else none
 pub edges_if : (net : Network) → IsNetwork net → (t : Bool) (v n : ℕ) → degree net v ≤ n → count_by (λ e. t && is_end v e) (edge_list net) ≤ cond t n 0

@@ -1,5 +1,5 @@
 -- Which edges and nodes a network has after an edge or a node is added or removed.
-use Rattle.machine_laws.proofs.Prelude.{[], ◌∷◌, List, ◌≡◌, ℕ, ◌+◌, ◌<◌, ◌≤◌, nat_le, nat_eq, leb-true, get_or, min, max, Bool, true, false, cond, not, ◌&&◌, ◌||◌, Option, None, Some, is_some, IsTrue, refl, sym, ap, ap₂, ◌∙◌, subst, ◌⊎◌, inl, inr, ⊎_elim, arith, set, nat_cmp, eq_by_cmp, IsTotalOrder, nat_cmp_total, on_total, then_total, CmpEqualImpliesEq, exact_pairs, exact_unsigned, tells_apart, length-map-range_with_len, get_or-map-range_with_len, get_or-set_same, get_or-set_other, length-set, cases_Bool, cases_eq, eqb-true, eq-eqb, or_left, or_cases, or_right, and_parts, and_from, true≢false, cases_lt, Network, PairSet, IsNetwork, pair_cmp, edge, linked, present, is_end, edgeless_with, with_edge, without_edge, with_node, without_node}
+use Rattle.machine_laws.proofs.Prelude.{[], ◌∷◌, List, ◌≡◌, ℕ, ◌≤◌, nat_le, leb-true, get_or, min, max, Bool, false, cond, not, ◌&&◌, ◌||◌, Option, None, Some, is_some, IsTrue, refl, sym, ap, ◌∙◌, ◌⊎◌, arith, set, nat_cmp, eq_by_cmp, IsTotalOrder, nat_cmp_total, on_total, then_total, CmpEqualImpliesEq, exact_pairs, exact_unsigned, tells_apart, length-map-range_with_len, get_or-map-range_with_len, get_or-set_same, get_or-set_other, length-set, cases_Bool, cases_eq, eqb-true, eq-eqb, or_left, or_cases, or_right, and_parts, and_from, true≢false, cases_lt, Network, PairSet, IsNetwork, pair_cmp, edge, linked, present, is_end, edgeless_with, with_edge, without_edge, with_node, without_node}
 use Rattle.std.specs.FinMap as map
 
 pub pair_total : IsTotalOrder pair_cmp

@@ -1,19 +1,15 @@
 -- Counts of edges that pass a test, if a single node changes.
-use Rattle.machine_laws.proofs.ChargePrelude.{◌≡◌, ℕ, ◌+◌, ◌<◌, Bool, cond, not, ◌&&◌, List, [], ◌∷◌, count_by, nat_eq, IsTrue, refl, ap, ◌∙◌, inl, inr, arith, sum_by-cons, Network, IsNetwork, names, present, neighbours, edge_list}
-use Rattle.machine_laws.proofs.ListCounts.{IsIn, count_agree, sum_add, sum_agree}
+use Rattle.machine_laws.proofs.ChargePrelude.{◌≡◌, ℕ, ◌+◌, ◌<◌, Bool, cond, not, ◌&&◌, List, [], ◌∷◌, count_by, nat_eq, IsTrue, refl, inl, inr, arith, Network, IsNetwork, names, present, neighbours, edge_list}
+use Rattle.machine_laws.proofs.ListCounts.{IsIn, count_agree, count_cons, sum_agree}
 use Rattle.machine_laws.proofs.Members.{edges_contain}
 use Rattle.machine_laws.proofs.EdgesByNodes.{has, at_node, at_upper, at_both}
 
 -- ---- a change at one node
 
--- what passes a test passes another with it or does not
-count_split : {X : Type 0} (s p : X → Bool) (xs : List X) → count_by p xs ≡ count_by (λ x. s x && p x) xs + count_by (λ x. not (s x) && p x) xs
-count_split s p xs =
-    sum_agree (λ x. cond (p x) 1 0) (λ x. cond (s x && p x) 1 0 + cond (not (s x) && p x) 1 0) (λ x. one (s x) (p x)) xs
-    ∙ sum_add (λ x. cond (s x && p x) 1 0) (λ x. cond (not (s x) && p x) 1 0) xs
-  where
-    one : (b c : Bool) → ◌≡◌ {A = ℕ} (cond c 1 0) (cond (b && c) 1 0 + cond (not b && c) 1 0)
-    one b c = grind arith
+-- what passes a test passes another before it or does not
+count_before : {X : Type 0} (s p : X → Bool) (xs : List X) → count_by p xs ≡ count_by (λ x. s x && p x) xs + count_by (λ x. not (s x) && p x) xs
+count_before s p [] = refl
+count_before s p (x ∷ xs) = grind (arith, count_before s p xs, count_cons p x xs, count_cons (λ y. s y && p y) x xs, count_cons (λ y. not (s y) && p y) x xs)
 
 -- whether a pair has the node at neither end and passes a test
 abbrev elsewhere : ℕ → (ℕ → ℕ → Bool) → ℕ × ℕ → Bool
@@ -22,8 +18,8 @@ elsewhere v p e = not (nat_eq e.1 v) && (not (nat_eq e.0 v) && p e.0 e.1)
 -- Edges that pass a symmetric test pass it at a node's neighbours or away from the node.
 around : (net : Network) → IsNetwork net → (p : ℕ → ℕ → Bool) (v : ℕ) → ((a b : ℕ) → p a b ≡ p b a) → count_by (λ e. p e.0 e.1) (edge_list net) ≡ count_by (p v) (neighbours net v) + count_by (elsewhere v p) (edge_list net)
 around net good p v symmetric =
-    let leaving = count_split (λ e. nat_eq e.0 v) (λ e. p e.0 e.1) (edge_list net) in
-    let entering = count_split (λ e. nat_eq e.1 v) (λ e. not (nat_eq e.0 v) && p e.0 e.1) (edge_list net) in
+    let leaving = count_before (λ e. nat_eq e.0 v) (λ e. p e.0 e.1) (edge_list net) in
+    let entering = count_before (λ e. nat_eq e.1 v) (λ e. not (nat_eq e.0 v) && p e.0 e.1) (edge_list net) in
     let turn = sum_agree (λ w. cond (has net w v && (not (nat_eq w v) && p w v)) 1 0) (λ w. cond (has net w v && p v w) 1 0) (λ w. from_below (has net w v) (p w v) (p v w) w (good.low_first w v) (symmetric w v)) (names net) in
     omega (arith, leaving, entering, at_node net good (λ e. p e.0 e.1) v, at_upper net good (λ e. not (nat_eq e.0 v) && p e.0 e.1) v, turn, at_both net good (p v) v)
   where
@@ -45,12 +41,7 @@ one_node_changes net good p q v p_symmetric q_symmetric same =
 
 agree_in : {X : Type 0} (p q : X → Bool) (xs : List X) → ((x : X) → IsIn x xs → p x ≡ q x) → count_by p xs ≡ count_by q xs
 agree_in p q [] same = refl
-agree_in p q (x ∷ xs) same =
-    let left = sum_by-cons (λ y. cond (p y) 1 0) x xs in
-    let right = sum_by-cons (λ y. cond (q y) 1 0) x xs in
-    let here : ◌≡◌ {A = ℕ} (cond (p x) 1 0) (cond (q x) 1 0) = ap (λ b. cond b 1 0) (same x (inl refl)) in
-    let rest = agree_in p q xs (λ y there. same y (inr there)) in
-    omega (arith, left, right, here, rest)
+agree_in p q (x ∷ xs) same = grind (arith, agree_in p q xs (λ y there. same y (inr there)), same x (inl refl), count_cons p x xs, count_cons q x xs)
 
 -- Tests that agree on nodes count the same edges.
 pub edges_agree : (net : Network) → IsNetwork net → (p q : ℕ × ℕ → Bool) → ((a b : ℕ) → IsTrue (present net a) → IsTrue (present net b) → p (a, b) ≡ q (a, b)) → count_by p (edge_list net) ≡ count_by q (edge_list net)

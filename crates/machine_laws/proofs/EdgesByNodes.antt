@@ -1,7 +1,7 @@
 -- The edges that pass a test are counted at their ends, each once.
-use Rattle.machine_laws.proofs.ChargePrelude.{◌≡◌, ℕ, ◌+◌, ◌<◌, ◌≤◌, Bool, true, false, cond, ◌&&◌, T, List, [], ◌∷◌, map, filter, count_by, sum_by, nat_eq, nat_lt, min, max, IsTrue, refl, sym, ap, ◌∙◌, subst, inl, inr, arith, is_lt, is_eq, Ordering, is_sorted, below_all, and_parts, and_from, ap₂, linked_back, linked_apart, sum_by-cons, eq_by_cmp_equiv, cases_lt, lt-ltb, ⊎_elim, Network, IsNetwork, pair_cmp, edge, names, linked, neighbours, edge_list, pair_total}
+use Rattle.machine_laws.proofs.ChargePrelude.{◌≡◌, ℕ, ◌+◌, ◌<◌, ◌≤◌, Bool, true, cond, ◌&&◌, T, List, [], ◌∷◌, map, filter, count_by, sum_by, nat_eq, nat_lt, min, max, IsTrue, refl, sym, ap, ◌∙◌, subst, inl, inr, arith, is_lt, is_eq, Ordering, is_sorted, below_all, and_parts, and_from, ap₂, linked_back, linked_apart, sum_by-cons, eq_by_cmp_equiv, cases_lt, lt-ltb, ⊎_elim, Network, IsNetwork, pair_cmp, edge, names, linked, neighbours, edge_list, pair_total}
 use Rattle.std.specs.FinMap as map
-use Rattle.machine_laws.proofs.ListCounts.{IsIn, IsWithoutRepeats, sum_add, sum_agree, sum_swap, counted_once, count_agree}
+use Rattle.machine_laws.proofs.ListCounts.{IsIn, IsWithoutRepeats, count_cons, sum_add, sum_agree, sum_swap, counted_once, count_agree}
 use Rattle.machine_laws.proofs.Members.{in_names, names_without_repeats, in_edges, edges_contain}
 
 holds : (b : Bool) → T b → IsTrue b
@@ -55,15 +55,7 @@ by_end end p (e ∷ es) xs single in_xs =
 -- counting among the elements that pass a test
 pub count_filter : (q r : ℕ → Bool) (xs : List ℕ) → count_by q (filter r xs) ≡ count_by (λ w. r w && q w) xs
 count_filter q r [] = refl
-count_filter q r (x ∷ xs) =
-    let first = kept (r x) in
-    let whole = sum_by-cons (λ w. cond (r w && q w) 1 0) x xs in
-    let rest = count_filter q r xs in
-    omega (arith, first, whole, rest)
-  where
-    kept : (b : Bool) → count_by q (cond b (x ∷ filter r xs) (filter r xs)) ≡ cond (b && q x) 1 0 + count_by q (filter r xs)
-    kept true = sum_by-cons (λ w. cond (q w) 1 0) x (filter r xs)
-    kept false = omega arith
+count_filter q r (x ∷ xs) = grind (arith, count_filter q r xs, count_cons q x (filter r xs), count_cons (λ w. r w && q w) x xs)
 
 -- ---- edges by their two ends
 

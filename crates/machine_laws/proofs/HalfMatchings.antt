@@ -1,57 +1,31 @@
 -- A maximal matching has at least half as many edges as any other matching.
-use Rattle.machine_laws.proofs.Prelude.{◌≡◌, ℕ, ◌+◌, ◌*◌, ◌≤◌, List, [], ◌∷◌, length, Bool, All, Any, Contains, refl, sym, ap, ◌∙◌, subst, inl, inr, ⊎_elim, ◌⊎◌, arith, All-head, All-tail, Network, State, IsState, IsStable, IsMaximalMatching, ShareAnEnd, mutual_pairs, AreApart, IsMatching}
+use Rattle.machine_laws.proofs.ChargePrelude.{◌≡◌, ℕ, ◌*◌, ◌≤◌, List, [], ◌∷◌, length, Bool, All, Any, refl, sym, ap, subst, inl, inr, ⊎_elim, ◌⊎◌, arith, All-head, All-tail, Network, State, IsState, IsStable, mutual_pairs}
+use Rattle.std.proofs.Common.{Contains}
+use Rattle.rule_machine.specs.Stable.{IsMaximalMatching, ShareAnEnd}
+use Rattle.machine_laws.specs.HalfMatchings.{AreApart, IsMatching}
+use Rattle.machine_laws.proofs.ListCounts.{IsIn, in_without, length_without, without}
 use Rattle.machine_laws.proofs.MaximalMatchings.{maximal_from_stable}
 use Rattle.machine_laws.proofs.Pairs.{contains_cases, contains_empty}
-
--- ---- names in a list
-
-abbrev IsOneOf : ℕ → List ℕ → Type 0
-IsOneOf v [] = ⊥
-IsOneOf v (x ∷ xs) = (x ≡ v) ⊎ IsOneOf v xs
-
--- the list without one of its names
-abbrev without_name : (xs : List ℕ) (v : ℕ) → IsOneOf v xs → List ℕ
-without_name [] v h = absurd h
-without_name (x ∷ xs) v (inl same) = xs
-without_name (x ∷ xs) v (inr there) = x ∷ without_name xs v there
-
-without_name_len : (xs : List ℕ) (v : ℕ) (h : IsOneOf v xs) → length xs ≡ 1 + length (without_name xs v h)
-without_name_len [] v h = absurd h
-without_name_len (x ∷ xs) v (inl same) = omega arith
-without_name_len (x ∷ xs) v (inr there) = let rest = without_name_len xs v there in omega (arith, rest)
-
-still_among : (xs : List ℕ) (v : ℕ) (h : IsOneOf v xs) (w : ℕ) → IsOneOf w xs → (v ≡ w → ⊥) → IsOneOf w (without_name xs v h)
-still_among [] v h w at apart = absurd h
-still_among (x ∷ xs) v (inl same) w (inl here) apart = absurd (apart (sym same ∙ here))
-still_among (x ∷ xs) v (inl same) w (inr at) apart = at
-still_among (x ∷ xs) v (inr there) w (inl here) apart = inl here
-still_among (x ∷ xs) v (inr there) w (inr at) apart = inr (still_among xs v there w at apart)
 
 -- ---- each edge takes an end of its own
 
 -- an end of the edge is one of the names
 abbrev Touches : List ℕ → ℕ × ℕ → Type 0
-Touches xs e = IsOneOf e.0 xs ⊎ IsOneOf e.1 xs
+Touches xs e = IsIn e.0 xs ⊎ IsIn e.1 xs
 
 -- an edge that shares no end with one whose end is taken away still has its own
-still_touches : (xs : List ℕ) (e f : ℕ × ℕ) (v : ℕ) (h : IsOneOf v xs) → (v ≡ e.0) ⊎ (v ≡ e.1) → (ShareAnEnd e f → ⊥) → Touches xs f → Touches (without_name xs v h) f
-still_touches xs e f v h x apart y = grind (arith, still_among)
+still_touches : (xs : List ℕ) (e f : ℕ × ℕ) (v : ℕ) (h : IsIn v xs) → (v ≡ e.0) ⊎ (v ≡ e.1) → (ShareAnEnd e f → ⊥) → Touches xs f → Touches (without xs v h) f
+still_touches xs e f v h x apart y = grind (arith, in_without)
 
 -- Edges that share no ends and each have an end among the names are at most as many as the names: the first
 -- removes its end.
 no_more_than_names : (edges : List (ℕ × ℕ)) (xs : List ℕ) → AreApart edges → All (Touches xs) edges → length edges ≤ length xs
 no_more_than_names [] xs apart touch = omega arith
-no_more_than_names (e ∷ edges) xs apart touch = let one = by_end (λ ys. no_more_than_names edges ys apart.1) (All-head (Touches xs) e edges touch) in omega (arith, one)
-  where
-    take : ((ys : List ℕ) → All (Touches ys) edges → length edges ≤ length ys) → (v : ℕ) → (v ≡ e.0) ⊎ (v ≡ e.1) → IsOneOf v xs → 1 + length edges ≤ length xs
-    take more v is h =
-        let rest = more (without_name xs v h) (λ k d below. still_touches xs e _ v h is (apart.0 k d below) (All-tail (Touches xs) e edges touch k d below)) in
-        let one = without_name_len xs v h in
-        omega (arith, rest, one)
-
-    by_end : ((ys : List ℕ) → All (Touches ys) edges → length edges ≤ length ys) → Touches xs e → 1 + length edges ≤ length xs
-    by_end more (inl low) = take more e.0 (inl refl) low
-    by_end more (inr high) = take more e.1 (inr refl) high
+no_more_than_names (e ∷ edges) xs apart touch =
+    let take : (v : ℕ) → (v ≡ e.0) ⊎ (v ≡ e.1) → IsIn v xs → length (e ∷ edges) ≤ length xs = λ v is h.
+    let rest = no_more_than_names edges (without xs v h) apart.1 (λ k d below. still_touches xs e _ v h is (apart.0 k d below) (All-tail (Touches xs) e edges touch k d below)) in
+    omega (arith, rest, length_without xs v h) in
+    ⊎_elim (take e.0 (inl refl)) (take e.1 (inr refl)) (All-head (Touches xs) e edges touch)
 
 -- ---- the ends of a matching
 
@@ -63,7 +37,7 @@ ends_len : (edges : List (ℕ × ℕ)) → length (ends edges) ≡ 2 * length ed
 ends_len [] = refl
 ends_len (e ∷ edges) = let rest = ends_len edges in omega (arith, rest)
 
-ends_have : (edges : List (ℕ × ℕ)) (e : ℕ × ℕ) → Contains edges e → IsOneOf e.0 (ends edges) × IsOneOf e.1 (ends edges)
+ends_have : (edges : List (ℕ × ℕ)) (e : ℕ × ℕ) → Contains edges e → IsIn e.0 (ends edges) × IsIn e.1 (ends edges)
 ends_have [] e c = absurd (contains_empty e c)
 ends_have (f ∷ edges) e c =
     ⊎_elim
@@ -75,18 +49,10 @@ ends_have (f ∷ edges) e c =
 shares_touches : (edges : List (ℕ × ℕ)) (e : ℕ × ℕ) → Any (ShareAnEnd e) edges → Touches (ends edges) e
 shares_touches edges e (k, f, below, at, shared) =
     let have = ends_have edges f (k, below, at) in
-    ⊎_elim
-    (λ same. inl (subst (λ v. IsOneOf v (ends edges)) (sym same) have.0))
-    (
-    ⊎_elim
-    (λ same. inl (subst (λ v. IsOneOf v (ends edges)) (sym same) have.1))
-    (
-    ⊎_elim
-    (λ same. inr (subst (λ v. IsOneOf v (ends edges)) (sym same) have.0))
-    (λ same. inr (subst (λ v. IsOneOf v (ends edges)) (sym same) have.1))
-    )
-    )
-    shared
+    ⊎_elim (λ a. inl (moved a have.0)) (⊎_elim (λ a. inl (moved a have.1)) (⊎_elim (λ a. inr (moved a have.0)) (λ a. inr (moved a have.1)))) shared
+  where
+    moved : {v w : ℕ} → v ≡ w → IsIn w (ends edges) → IsIn v (ends edges)
+    moved same there = subst (λ x. IsIn x (ends edges)) (sym same) there
 
 -- No matching has more than twice the edges of a maximal matching: each edge of the first has an end of the
 -- second for itself.

@@ -1,5 +1,5 @@
 -- The moves with the least targets; they lead to a state.
-use Rattle.machine_laws.proofs.Prelude.{◌≡◌, ℕ, Bool, true, false, cond, List, [], ◌∷◌, Option, None, Some, IsTrue, refl, sym, ap, ◌∙◌, subst, ⊎_elim, find, filter_map, option_and_then, AllByRecursion, cons_option, cases_Bool, cond-true, cond-false, none-some, same_Some, cond_some, option_and_then_some, Act, Item, Moved, linked, present, names, neighbours, State, IsState, RuleTable, rule_at, least_target, after_moves, outcome_by, outcome_at, outcome_of, move_in, item_of, least_moves, target_by, IsMoveIn, arith}
+use Rattle.machine_laws.proofs.Prelude.{◌≡◌, ℕ, Bool, true, cond, List, [], ◌∷◌, Option, Some, IsTrue, refl, sym, subst, find, filter_map, option_and_then, AllByRecursion, cons_option, cases_Bool, cond-true, cond-false, none-some, same_Some, cond_some, option_and_then_some, Act, Item, Moved, linked, present, names, State, IsState, RuleTable, rule_at, after_moves, outcome_by, outcome_at, outcome_of, move_in, item_of, least_moves, target_by, IsMoveIn, arith}
 use Rattle.rule_machine.specs.declared.verdict.Outcome.TheVariants as outcome
 pub use Rattle.rule_machine.specs.Table.{IsTable}
 use Rattle.machine_laws.proofs.StatePreservation.{moves_keep}

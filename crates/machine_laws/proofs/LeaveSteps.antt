@@ -1,6 +1,6 @@
 -- The steps by which a node leaves: its edges are removed one at a time, then its flag is cleared, then its
 -- name is freed.
-use Rattle.machine_laws.proofs.Prelude.{◌≡◌, ◌≢◌, ℕ, ◌-◌, ◌<◌, ◌≤◌, true, false, cond, [], ◌∷◌, set, length, find, IsTrue, sym, ap, ◌∙◌, subst, ⊎_elim, arith, cases_lt, false_from_ne_true, true≢false, get_or-set_same, get_or_past, length-set, set-set, Network, IsNetwork, linked, neighbours, edge, edge_count, without_edge, without_node, State, Registers, IsState, flag_of, with_flag, after_unlink, after_flag, after_leave, without_name}
+use Rattle.machine_laws.proofs.Prelude.{◌≡◌, ◌≢◌, ℕ, ◌-◌, ◌<◌, ◌≤◌, true, false, cond, [], ◌∷◌, set, find, IsTrue, sym, ap, ◌∙◌, subst, ⊎_elim, arith, cases_lt, false_from_ne_true, true≢false, get_or-set_same, get_or_past, length-set, set-set, Network, IsNetwork, linked, neighbours, edge, edge_count, without_edge, without_node, State, Registers, IsState, flag_of, with_flag, after_unlink, after_flag, after_leave, without_name}
 use Rattle.std.specs.FinMap as map
 use Rattle.machine_laws.proofs.Edges.{pair_total, contains-empty, present_other, without_node_is_network}
 use Rattle.machine_laws.proofs.Neighbours.{near_none}

@@ -1,5 +1,5 @@
 -- A node that leaves: its edges are removed one by one, and then its name is freed.
-use Rattle.machine_laws.proofs.Prelude.{◌≡◌, ℕ, ◌<◌, ◌≤◌, min, max, Bool, true, false, cond, not, ◌&&◌, ◌||◌, List, [], ◌∷◌, length, map, set, fold, find, nat_eq, Option, None, Some, is_some, IsTrue, refl, sym, ap, ap₂, ◌∙◌, ⊎_elim, arith, get_or, cases_Bool, cases_eq, cases_lt, and_parts, and_from, or_cases, true≢false, eqb-true, eq-eqb, false_from_ne_true, both_ways, get_or-map, ext_get_or, length-set, length-map, get_or-set_other, eq_by_cmp, eq_by_cmp_equiv, pair_cmp, neighbours, linked, edge, is_end, State, Registers, IsState, is_at, points, pointer, pointer_of, with_pointer, with_flag, after_unlink, after_leave, without_pointer, unless_at}
+use Rattle.machine_laws.proofs.Prelude.{◌≡◌, ℕ, min, max, Bool, true, false, cond, not, ◌||◌, List, [], ◌∷◌, length, map, set, fold, find, nat_eq, Option, None, Some, is_some, IsTrue, refl, sym, ap, ap₂, ◌∙◌, ⊎_elim, arith, get_or, cases_Bool, cases_eq, cases_lt, and_parts, and_from, or_cases, true≢false, eqb-true, eq-eqb, false_from_ne_true, both_ways, get_or-map, ext_get_or, length-set, length-map, get_or-set_other, eq_by_cmp, eq_by_cmp_equiv, neighbours, linked, edge, is_end, State, Registers, IsState, is_at, pointer, pointer_of, with_flag, after_unlink, after_leave, without_pointer, unless_at}
 use Rattle.std.specs.FinMap as finmap
 use Rattle.machine_laws.proofs.Neighbours.{linked_back, near_found}
 use Rattle.machine_laws.proofs.Edges.{pair_total, pair_exact, contains-remove, removed_was, still_removed, contains-without}

@@ -16,7 +16,6 @@ pub mod AscendingMoves
 pub mod TwoPasses
 pub mod Pairs
 pub mod MaximalMatchings
-pub mod HalfMatchings
 pub mod Leaves
 pub mod LeaveSteps
 pub mod Determinism
@@ -28,6 +27,7 @@ pub mod Laws
 pub mod PaidMoves
 pub mod ListCounts
 pub mod Members
+pub mod HalfMatchings
 pub mod EdgesByNodes
 pub mod EdgesByEnds
 pub mod EdgeChanges

@@ -1,5 +1,5 @@
 -- Counts and sums over a list, compared element by element, or by an injection of one list into another.
-use Rattle.machine_laws.proofs.ChargePrelude.{◌≡◌, ℕ, ◌+◌, ◌*◌, ◌≤◌, Bool, true, false, cond, List, [], ◌∷◌, length, count_by, sum_by, IsTrue, refl, sym, ap, ap₂, ◌∙◌, subst, inl, inr, ⊎_elim, ◌⊎◌, arith, cases_Bool, cases_eq, cond-true, cond-false, nat_eq, eqb-true, true≢false, false_from_ne_true, sum_by-cons}
+use Rattle.machine_laws.proofs.ChargePrelude.{not, ◌&&◌, ◌||◌, ◌≡◌, ℕ, ◌+◌, ◌*◌, ◌≤◌, Bool, true, false, cond, List, [], ◌∷◌, length, count_by, sum_by, IsTrue, refl, sym, ap, ap₂, ◌∙◌, subst, inl, inr, ⊎_elim, ◌⊎◌, arith, cases_Bool, cases_eq, cond-true, cond-false, nat_eq, eqb-true, true≢false, false_from_ne_true, sum_by-cons}
 
 -- y is in the list
 abbrev pub IsIn : {X : Type 0} → X → List X → Type 0
@@ -11,15 +11,13 @@ abbrev pub IsWithoutRepeats : {X : Type 0} → List X → Type 0
 IsWithoutRepeats [] = Unit {0}
 IsWithoutRepeats (x ∷ xs) = (IsIn x xs → ⊥) × IsWithoutRepeats xs
 
+pub count_cons : {X : Type 0} (p : X → Bool) (x : X) (xs : List X) → count_by p (x ∷ xs) ≡ cond (p x) 1 0 + count_by p xs
+count_cons p x xs = sum_by-cons (λ y. cond (p y) 1 0) x xs
+
 -- a sum of sums
 pub sum_add : {X : Type 0} (f g : X → ℕ) (xs : List X) → sum_by (λ x. f x + g x) xs ≡ sum_by f xs + sum_by g xs
 sum_add f g [] = refl
-sum_add f g (x ∷ xs) =
-    let both = sum_by-cons (λ x. f x + g x) x xs in
-    let left = sum_by-cons f x xs in
-    let right = sum_by-cons g x xs in
-    let rest = sum_add f g xs in
-    omega (arith, both, left, right, rest)
+sum_add f g (x ∷ xs) = omega (arith, sum_by-cons (λ y. f y + g y) x xs, sum_by-cons f x xs, sum_by-cons g x xs, sum_add f g xs)
 
 -- a sum whose terms are no larger is no larger
 pub sum_le : {X : Type 0} (f g : X → ℕ) (xs : List X) → ((x : X) → IsIn x xs → f x ≤ g x) → sum_by f xs ≤ sum_by g xs
@@ -29,11 +27,7 @@ sum_le f g (x ∷ xs) h = grind (arith, sum_le f g xs (λ y there. h y (inr ther
 -- twice each term is twice the sum
 pub sum_twice : {X : Type 0} (f : X → ℕ) (xs : List X) → sum_by (λ x. 2 * f x) xs ≡ 2 * sum_by f xs
 sum_twice f [] = refl
-sum_twice f (x ∷ xs) =
-    let both = sum_by-cons (λ x. 2 * f x) x xs in
-    let one = sum_by-cons f x xs in
-    let rest = sum_twice f xs in
-    omega (arith, both, one, rest)
+sum_twice f (x ∷ xs) = omega (arith, sum_by-cons (λ y. 2 * f y) x xs, sum_by-cons f x xs, sum_twice f xs)
 
 pub sum_zero : {X : Type 0} (f : X → ℕ) (xs : List X) → sum_by f xs ≡ 0 → (x : X) → IsIn x xs → f x ≡ 0
 sum_zero f [] e x h = absurd h
@@ -55,21 +49,44 @@ sum_agree f g same (x ∷ xs) = sum_by-cons f x xs ∙ ap₂ ◌+◌ (same x) (s
 pub count_agree : {X : Type 0} (p q : X → Bool) → ((x : X) → p x ≡ q x) → (xs : List X) → count_by p xs ≡ count_by q xs
 count_agree p q same xs = sum_agree (λ x. cond (p x) 1 0) (λ x. cond (q x) 1 0) (λ x. ap (λ b. cond b 1 0) (same x)) xs
 
+-- a test that implies another counts no more
+pub count_le : {X : Type 0} (p q : X → Bool) (xs : List X) → ((x : X) → IsIn x xs → p x ≡ true → q x ≡ true) → count_by p xs ≤ count_by q xs
+count_le p q [] h = omega arith
+count_le p q (x ∷ xs) h = grind (arith, count_le p q xs (λ y there. h y (inr there)), h x (inl refl), count_cons p x xs, count_cons q x xs)
+
+-- what passes a test passes another with it or does not
+pub count_split : {X : Type 0} (p q : X → Bool) (xs : List X) → count_by p xs ≡ count_by (λ x. p x && q x) xs + count_by (λ x. p x && not (q x)) xs
+count_split p q [] = refl
+count_split p q (x ∷ xs) = grind (arith, count_split p q xs, count_cons p x xs, count_cons (λ y. p y && q y) x xs, count_cons (λ y. p y && not (q y)) x xs)
+
+-- what passes either test, and what passes both
+pub count_either : {X : Type 0} (p q : X → Bool) (xs : List X) → count_by (λ x. p x || q x) xs + count_by (λ x. p x && q x) xs ≡ count_by p xs + count_by q xs
+count_either p q [] = refl
+count_either p q (x ∷ xs) = grind (arith, count_either p q xs, count_cons p x xs, count_cons q x xs, count_cons (λ y. p y || q y) x xs, count_cons (λ y. p y && q y) x xs)
+
+pub count_or : {X : Type 0} (p q : X → Bool) (xs : List X) → count_by (λ x. p x || q x) xs ≤ count_by p xs + count_by q xs
+count_or p q xs = omega (arith, count_either p q xs)
+
+pub count_not : {X : Type 0} (p : X → Bool) (xs : List X) → count_by p xs + count_by (λ x. not (p x)) xs ≡ length xs
+count_not p [] = refl
+count_not p (x ∷ xs) = grind (arith, count_not p xs, count_cons p x xs, count_cons (λ y. not (p y)) x xs)
+
 -- the list without one of its elements
 abbrev pub without : {X : Type 0} (xs : List X) (y : X) → IsIn y xs → List X
 without [] y h = absurd h
 without (x ∷ xs) y (inl same) = xs
 without (x ∷ xs) y (inr there) = x ∷ without xs y there
 
+pub length_without : {X : Type 0} (xs : List X) (y : X) (h : IsIn y xs) → length xs ≡ 1 + length (without xs y h)
+length_without [] y h = absurd h
+length_without (x ∷ xs) y (inl same) = omega arith
+length_without (x ∷ xs) y (inr there) = let rest = length_without xs y there in omega (arith, rest)
+
 count_without : {X : Type 0} (p : X → Bool) (xs : List X) (y : X) (h : IsIn y xs) → IsTrue (p y) → count_by p xs ≡ 1 + count_by p (without xs y h)
 count_without p [] y h passes = absurd h
 count_without p (x ∷ xs) y (inl same) passes =
     sum_by-cons (λ x. cond (p x) 1 0) x xs ∙ ap (λ b. cond b 1 0 + count_by p xs) (ap p same ∙ passes)
-count_without p (x ∷ xs) y (inr there) passes =
-    let whole = sum_by-cons (λ x. cond (p x) 1 0) x xs in
-    let part = sum_by-cons (λ x. cond (p x) 1 0) x (without xs y there) in
-    let rest = count_without p xs y there passes in
-    omega (arith, whole, part, rest)
+count_without p (x ∷ xs) y (inr there) passes = omega (arith, count_cons p x xs, count_cons p x (without xs y there), count_without p xs y there passes)
 
 pub in_without : {X : Type 0} (xs : List X) (y : X) (h : IsIn y xs) (z : X) → IsIn z xs → (y ≡ z → ⊥) → IsIn z (without xs y h)
 in_without [] y h z at apart = absurd h
@@ -121,16 +138,18 @@ pub one_count : {X : Type 0} (p : X → Bool) (xs : List X) (x : X) → IsIn x x
 one_count p xs x there passes =
     ⊎_elim (λ (none : count_by p xs ≡ 0). absurd (true≢false (sym passes ∙ count_none p xs none x there))) (λ some. omega (arith, some)) (cases_eq (count_by p xs) 0)
 
+-- what passes both tests, and is in both lists, is counted in the second
+pub count_within : {X : Type 0} (p q : X → Bool) (xs ys : List X) → IsWithoutRepeats xs → ((x : X) → IsIn x xs → p x ≡ true → IsIn x ys × (q x ≡ true)) → count_by p xs ≤ count_by q ys
+count_within p q xs ys single both =
+    count_into p xs (λ x. x) q ys single (record { lands = λ x there h. (both x there h).0; passes = λ x there h. (both x there h).1; apart = λ x z there also h k same. same })
+
+-- if only elements of the second list pass, at most its length is counted
+pub count_among : {X : Type 0} (p : X → Bool) (xs ys : List X) → IsWithoutRepeats xs → ((x : X) → IsIn x xs → p x ≡ true → IsIn x ys) → count_by p xs ≤ length ys
+count_among p xs ys single only = omega (arith, count_within p (λ x. true) xs ys single (λ x there h. (only x there h, refl)), count_all ys)
+
 -- what passes a test that only y passes is counted at most once
 pub at_most_one : {X : Type 0} (q : X → Bool) (y : X) (xs : List X) → IsWithoutRepeats xs → ((x : X) → IsIn x xs → q x ≡ true → x ≡ y) → count_by q xs ≤ 1
-at_most_one {X = X} q y xs single only =
-    let into = count_into q xs (λ (x : X). x) (λ x. true) (y ∷ []) single (record {
-      lands = λ x there h. inl (sym (only x there h));
-      passes = λ x there h. refl;
-      apart = λ x z there also h k same. same;
-    }) in
-    let one : count_by {X = X} (λ x. true) (y ∷ []) ≡ 1 = count_all (y ∷ []) in
-    omega (arith, into, one)
+at_most_one q y xs single only = count_among q xs (y ∷ []) single (λ x there h. inl (sym (only x there h)))
 
 -- and once if y is there
 pub counted_once : {X : Type 0} (q : X → Bool) (y : X) (xs : List X) (b : Bool) → IsWithoutRepeats xs → ((x : X) → IsIn x xs → q x ≡ true → (x ≡ y) × (b ≡ true)) → (b ≡ true → IsIn y xs × (q y ≡ true)) → count_by q xs ≡ cond b 1 0

@@ -1,6 +1,6 @@
 -- The rest of Manne's charge in a stable network: one for each node that is in no pair.
-use Rattle.machine_laws.proofs.ChargePrelude.{◌≡◌, ℕ, ◌+◌, ◌*◌, ◌≤◌, Bool, true, cond, not, ◌&&◌, ◌||◌, List, [], ◌∷◌, length, filter_map, count_by, sum_by, nat_lt, Option, None, Some, false, is_some, IsTrue, refl, sym, ap, ◌∙◌, arith, cons_option, not_from_true, sum_by-cons, names, neighbours, edge_list, node_count, State, IsState, is_at, holds_at, pointer, points, flag, partner, married, has_suitor, manne_closed, manne_node_charge, manne_charge, IsStable, pair_above, mutual_pairs, partner_some, partner_from}
-use Rattle.machine_laws.proofs.ListCounts.{IsIn, count_all, count_agree, sum_agree, sum_add, sum_le, none_count}
+use Rattle.machine_laws.proofs.ChargePrelude.{◌≡◌, ℕ, ◌+◌, ◌*◌, ◌≤◌, Bool, true, cond, not, ◌&&◌, ◌||◌, List, [], ◌∷◌, length, filter_map, count_by, sum_by, nat_lt, Option, None, Some, false, is_some, IsTrue, refl, sym, ap, ◌∙◌, arith, not_from_true, names, neighbours, edge_list, node_count, State, IsState, is_at, holds_at, pointer, points, flag, partner, married, has_suitor, manne_closed, manne_node_charge, manne_charge, IsStable, pair_above, mutual_pairs, partner_some, partner_from}
+use Rattle.machine_laws.proofs.ListCounts.{count_cons, count_not, IsIn, count_agree, sum_agree, sum_le, none_count}
 use Rattle.machine_laws.proofs.Members.{names_present, names_len}
 use Rattle.machine_laws.proofs.EdgesByNodes.{edges_by_nodes}
 use Rattle.machine_laws.proofs.EdgesByNodes.{by_both}
@@ -36,14 +36,7 @@ manne_stable_leaves s good stable =
 
 filter_map_len : {X Y : Type 0} (h : X → Option Y) (xs : List X) → length (filter_map h xs) ≡ count_by (λ x. is_some (h x)) xs
 filter_map_len h [] = refl
-filter_map_len {X = X} {Y = Y} h (x ∷ xs) =
-    let whole = sum_by-cons (λ y. cond (is_some (h y)) 1 0) x xs in
-    let rest = filter_map_len h xs in
-    let head = kept (h x) (filter_map h xs) in
-    omega (arith, whole, rest, head)
-  where
-    kept : (o : Option Y) (ys : List Y) → length (cons_option o ys) ≡ cond (is_some o) 1 0 + length ys
-    kept o ys = grind arith
+filter_map_len h (x ∷ xs) = grind (arith, filter_map_len h xs, count_cons (λ y. is_some (h y)) x xs)
 
 -- v and w point at each other
 abbrev both : State → ℕ × ℕ → Bool
@@ -76,20 +69,19 @@ lower_at s v good =
     at p (Some x) some from = hit p x (some x refl).0 (some x refl).1
 
 -- Each pair has two married nodes, and each married node is in one.
-pub married_are_pairs : (s : State) → IsState s → count_by (λ v. not (married s v)) (names s.network) + 2 * length (mutual_pairs s) ≡ node_count s.network
-married_are_pairs s good =
+pub married_twice : (s : State) → IsState s → count_by (married s) (names s.network) ≡ 2 * length (mutual_pairs s)
+married_twice s good =
     let pairs = filter_map_len (λ v. pair_above v (partner s v)) (names s.network) in
     let lower = sum_agree (λ v. count_by (λ w. nat_lt v w && both s (v, w)) (neighbours s.network v)) (λ v. bit (is_some (pair_above v (partner s v)))) (λ v. lower_at s v good) (names s.network) in
     let wed = sum_agree (λ v. count_by (λ w. both s (v, w)) (neighbours s.network v)) (λ v. bit (married s v)) (λ v. wed_at s v good) (names s.network) in
     let back = count_agree (λ e. both s (e.1, e.0)) (both s) (λ e. swap (points s.registers e.1 e.0) (points s.registers e.0 e.1)) (edge_list s.network) in
-    let each = sum_agree (λ v. bit (not (married s v)) + bit (married s v)) (λ v. bit true) (λ v. one (married s v)) (names s.network) in
-    omega (arith, pairs, lower, wed, back, each, sum_add (λ v. bit (not (married s v))) (λ v. bit (married s v)) (names s.network), by_both s.network good.is_network (λ v w. both s (v, w)), edges_by_nodes s.network good.is_network (both s), count_all (names s.network), names_len s.network)
+    omega (arith, pairs, lower, wed, back, by_both s.network good.is_network (λ v w. both s (v, w)), edges_by_nodes s.network good.is_network (both s))
   where
     swap : (p q : Bool) → (p && q) ≡ (q && p)
     swap p q = grind arith
 
-    one : (m : Bool) → bit (not m) + bit m ≡ bit true
-    one m = grind arith
+pub married_are_pairs : (s : State) → IsState s → count_by (λ v. not (married s v)) (names s.network) + 2 * length (mutual_pairs s) ≡ node_count s.network
+married_are_pairs s good = omega (arith, married_twice s good, count_not (married s) (names s.network), names_len s.network)
 
 -- So nodes in pairs plus the rest of the charge are all nodes.
 pub manne_stable_charge : (s : State) → IsState s → IsStable true s → manne_charge s + 2 * length (mutual_pairs s) ≡ node_count s.network

@@ -1,10 +1,11 @@
 -- The mutual pairs of a state are a matching; of a stable one a maximal matching, and the other way round.
-use Rattle.machine_laws.proofs.Prelude.{◌≡◌, ℕ, min, max, Bool, None, Some, IfSome, IsTrue, All, Any, Contains, sym, ap, ap₂, ◌∙◌, inl, inr, ⊎_elim, ◌⊎◌, arith, cases_order, Contains-get_or, linked, present, State, IsState, pointer, flag, married, IsStable, IsMaximalMatching, ShareAnEnd, mutual_pairs}
+use Rattle.machine_laws.proofs.Prelude.{◌≡◌, ℕ, min, max, Bool, None, Some, IfSome, IsTrue, All, Any, Contains, sym, ap, ◌∙◌, inl, inr, ⊎_elim, arith, Contains-get_or, linked, present, State, IsState, pointer, flag, married, IsStable, IsMaximalMatching, ShareAnEnd, mutual_pairs}
 use Rattle.std.specs.FinMap as map
 use Rattle.machine_laws.proofs.Neighbours.{option_cases, linked_pair}
 use Rattle.machine_laws.proofs.Pointers.{pointer_linked}
 use Rattle.machine_laws.proofs.Writes.{if_some_at}
 use Rattle.machine_laws.proofs.Pairs.{IsMutualPair, pair_from, pair_at}
+use Rattle.machine_laws.proofs.Members.{edge_either}
 
 -- each mutual pair is an edge, since pointers cross edges
 pub pairs_are_edges : (s : State) → IsState s → All (λ e. IsTrue (map.contains_key s.network.edges e)) (mutual_pairs s)
@@ -59,18 +60,12 @@ uncovered s matching v w h null other =
     let pair = pair_from s found.1 (found.0, found.2, found.3) in
     let clash : (a b : ℕ) → pointer s a ≡ None → a ≡ b → (x : ℕ) → pointer s b ≡ Some x → ⊥ = λ a b p q x r. let same = ap (pointer s) q in absurd cc in
     ⊎_elim
-    (λ p. clash _ _ low p _ pair.there)
-    (⊎_elim (λ p. clash _ _ low p _ pair.back) (⊎_elim (λ p. clash _ _ high p _ pair.there) (λ p. clash _ _ high p _ pair.back)))
+    (λ p. clash _ _ ends.0 p _ pair.there)
+    (⊎_elim (λ p. clash _ _ ends.0 p _ pair.back) (⊎_elim (λ p. clash _ _ ends.1 p _ pair.there) (λ p. clash _ _ ends.1 p _ pair.back)))
     found.4
   where
-    one : (x : ℕ) → (x ≡ v) ⊎ (x ≡ w) → pointer s x ≡ None
-    one x k = ⊎_elim (λ p. ap (pointer s) p ∙ null) (λ p. ap (pointer s) p ∙ other) k
-
-    low : pointer s (min v w) ≡ None
-    low = one (min v w) (⊎_elim (λ p. inl (omega arith)) (⊎_elim (λ p. inl (omega arith)) (λ p. inr (omega arith))) (cases_order v w))
-
-    high : pointer s (max v w) ≡ None
-    high = one (max v w) (⊎_elim (λ p. inl (omega arith)) (⊎_elim (λ p. inr (omega arith)) (λ p. inl (omega arith))) (cases_order v w))
+    ends : (pointer s (min v w) ≡ None) × (pointer s (max v w) ≡ None)
+    ends = edge_either (λ e. (pointer s e.0 ≡ None) × (pointer s e.1 ≡ None)) v w (null, other) (other, null)
 
 pub stable_from_maximal : (uses_flags : Bool) (s : State) → IsState s → ((v : ℕ) → IfSome (pointer s v) (λ w. pointer s w ≡ Some v)) → (IsTrue uses_flags → (v : ℕ) → IsTrue (present s.network v) → flag s v ≡ married s v) → IsMaximalMatching s.network (mutual_pairs s) → IsStable uses_flags s
 stable_from_maximal uses_flags s is_state answered flagged matching =

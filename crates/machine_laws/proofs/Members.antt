@@ -1,5 +1,5 @@
 -- What is in the lists of a network's names and edges.
-use Rattle.machine_laws.proofs.ChargePrelude.{◌≡◌, ℕ, zero, suc, ◌+◌, ◌<◌, ◌≤◌, min, max, Bool, true, false, cond, filter, refl, List, [], ◌∷◌, length, IsTrue, sym, ap, ◌∙◌, subst, inl, inr, ⊎_elim, arith, range_with_len, list_any, eq_by_cmp, cases_eq, cases_lt, or_cases, or_left, or_right, tells_apart, length-map, eq_by_cmp_equiv, Network, pair_cmp, edge, names, present, edge_list, node_count, edge_count, present_range, pair_total, pair_exact}
+use Rattle.machine_laws.proofs.ChargePrelude.{◌≡◌, ℕ, zero, suc, ◌+◌, ◌<◌, ◌≤◌, min, max, Bool, true, cond, filter, refl, List, [], ◌∷◌, length, IsTrue, sym, ap, ◌∙◌, subst, inl, inr, ⊎_elim, arith, range_with_len, list_any, eq_by_cmp, cases_eq, cases_lt, or_cases, or_left, or_right, tells_apart, length-map, eq_by_cmp_equiv, Network, pair_cmp, edge, names, present, edge_list, node_count, edge_count, present_range, pair_total, pair_exact}
 use Rattle.std.specs.FinMap as map
 use Rattle.machine_laws.proofs.ListCounts.{IsIn, IsWithoutRepeats}
 
@@ -24,12 +24,7 @@ in_kept p v (x ∷ xs) passes (inr there) = grind (arith, in_kept p v xs passes 
 
 kept_in : (p : ℕ → Bool) (v : ℕ) (xs : List ℕ) → IsIn v (filter p xs) → IsTrue (p v) × IsIn v xs
 kept_in p v [] at = absurd at
-kept_in p v (x ∷ xs) at = go (p x) refl (λ there. kept_in p v xs there) at
-  where
-    go : (b : Bool) → p x ≡ b → (IsIn v (filter p xs) → IsTrue (p v) × IsIn v xs) → IsIn v (cond b (x ∷ filter p xs) (filter p xs)) → IsTrue (p v) × IsIn v (x ∷ xs)
-    go true e more (inl same) = (sym (ap p same) ∙ e, inl same)
-    go true e more (inr there) = ((more there).0, inr (more there).1)
-    go false e more there = ((more there).0, inr (more there).1)
+kept_in p v (x ∷ xs) at = grind (arith, kept_in p v xs)
 
 kept_without_repeats : (p : ℕ → Bool) (xs : List ℕ) → IsWithoutRepeats xs → IsWithoutRepeats (filter p xs)
 kept_without_repeats p [] once = tt

@@ -1,6 +1,6 @@
 -- Pointers, suitors and partners.
-use Rattle.machine_laws.proofs.Prelude.{◌≡◌, ◌≢◌, ℕ, true, false, Option, None, Some, is_some, IsTrue, refl, sym, ap, ◌∙◌, subst, ⊎_elim, and_parts, and_from, linked, State, IsState, points, pointer, suits, first_suitor, has_suitor, is_mutual, partner, married, arith}
-use Rattle.machine_laws.proofs.Neighbours.{option_cases, linked_back, near_none, near_some, near_found}
+use Rattle.machine_laws.proofs.Prelude.{same_Some, none-some, false_from_ne_true, ◌≡◌, ◌≢◌, ℕ, true, false, Option, None, Some, is_some, IsTrue, sym, ap, ◌∙◌, subst, and_parts, and_from, linked, State, IsState, points, pointer, suits, first_suitor, has_suitor, is_mutual, partner, married, arith}
+use Rattle.machine_laws.proofs.Neighbours.{linked_back, near_none, near_some, near_found}
 use Rattle.machine_laws.proofs.Writes.{if_some_at, some_from_is_at, is_at_from_some}
 
 -- a search that found something
@@ -67,20 +67,9 @@ married_some s v h =
 
 -- a node that points nowhere is not married
 pub null_unmarried : (s : State) (v : ℕ) → pointer s v ≡ None → married s v ≡ false
-null_unmarried s v e =
-    ⊎_elim
-    (λ none. ap is_some none)
-    (λ some. let at = (partner_some s v some.0 some.1).0 in absurd cc)
-    (option_cases (partner s v))
+null_unmarried s v e = false_from_ne_true (married s v) (λ h. let pair = married_some s v h in none-some pair.0 (sym e ∙ pair.1))
 
 -- a node whose pointer is not answered is not married
 pub unanswered_unmarried : (s : State) (v w : ℕ) → pointer s v ≡ Some w → pointer s w ≢ Some v → married s v ≡ false
 unanswered_unmarried s v w there apart =
-    ⊎_elim
-    (λ none. ap is_some none)
-    (
-    λ some. let both = partner_some s v some.0 some.1 in
-    let same : ◌≡◌ {A = ℕ} some.0 w = cc in
-    absurd (apart (subst (λ x. pointer s x ≡ Some v) same both.1))
-    )
-    (option_cases (partner s v))
+    false_from_ne_true (married s v) (λ h. let pair = married_some s v h in apart (subst (λ x. pointer s x ≡ Some v) (same_Some pair.0 w (sym pair.1 ∙ there)) pair.2))

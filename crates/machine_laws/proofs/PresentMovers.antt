@@ -1,8 +1,6 @@
 -- Only present nodes have an enabled rule: an absent one has no neighbour, a null pointer and no flag.
-use Rattle.machine_laws.proofs.ChargePrelude.{◌≡◌, ℕ, Bool, cond, not, List, Option, None, Some, is_some, find, IsTrue, refl, sym, subst, and_parts, true≢false, Moved, Network, IsNetwork, linked, present, names, neighbours, State, IsState, pointer, flag, married, holds_at, has_suitor, RuleTable, hsu_huang, manne, linked_present, near_some, some_is, pointer_linked, suitor_linked, suitor_some, married_some, arith}
-use Rattle.machine_laws.proofs.ListCounts.{IsIn}
-use Rattle.machine_laws.proofs.Members.{in_names}
-use Rattle.machine_laws.proofs.NodeMoves.{IsInside, IsDone}
+use Rattle.machine_laws.proofs.ChargePrelude.{◌≡◌, ℕ, Bool, cond, not, Option, None, Some, is_some, find, IsTrue, refl, sym, and_parts, true≢false, Network, IsNetwork, linked, present, neighbours, State, IsState, pointer, flag, married, holds_at, has_suitor, hsu_huang, manne, linked_present, near_some, some_is, pointer_linked, suitor_linked, suitor_some, married_some, arith}
+use Rattle.machine_laws.proofs.NodeMoves.{IsInside}
 
 -- a pointer that passes a test is at a name that passes it
 pub holds_is : (test : ℕ → Bool) (o : Option ℕ) → IsTrue (holds_at test o) → (w : ℕ) × (o ≡ Some w) × IsTrue (test w)
@@ -35,7 +33,3 @@ hsu_huang_inside = grind (arith, true≢false, courted_present, and_parts, found
 
 pub manne_inside : IsInside manne
 manne_inside = grind (arith, unsettled_present, courted_present, and_parts, found_present, pointing_present, linked)
-
--- after a step each pointer is at one of the names
-pub near_names : (t : RuleTable) (s s' : State) (moves : List Moved) → IsDone t s s' moves → (v w : ℕ) → pointer s' v ≡ Some w → IsIn w (names s.network)
-near_names t s s' moves done v w now = in_names s.network w (subst (λ net. IsTrue (present net w)) done.network (suitor_present s' w v done.is_state now))

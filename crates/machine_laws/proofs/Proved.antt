@@ -1,6 +1,7 @@
 -- The laws, for any table whose charge pays for its moves and whose costs pay for disturbances.
-use Rattle.machine_laws.proofs.ChargePrelude.{ℕ, ◌≤◌, arith, RuleTable, hsu_huang, manne, Event, State, IsTable, IsFlagless, runs_end_in_states, stable_is_half, IsCharged, hsu_huang_cost, manne_cost}
+use Rattle.machine_laws.proofs.ChargePrelude.{ℕ, ◌≤◌, arith, RuleTable, hsu_huang, manne, Event, State, IsTable, IsFlagless, runs_end_in_states, IsCharged, hsu_huang_cost, manne_cost}
 use Rattle.machine_laws.specs.Laws as law
+use Rattle.machine_laws.proofs.HalfMatchings.{stable_is_half}
 use Rattle.machine_laws.proofs.PresentMovers.{hsu_huang_inside, manne_inside}
 use Rattle.machine_laws.proofs.NodeMoves.{IsInside}
 use Rattle.machine_laws.proofs.Tables.{hsu_huang_table, manne_table, hsu_huang_flagless, manne_flagless}

@@ -1,5 +1,5 @@
 -- Every run ends in a state.
-use Rattle.machine_laws.proofs.Prelude.{◌≡◌, ℕ, List, [], ◌∷◌, ◌++◌, Any, Option, None, Some, IsSomeAnd, IsTrue, refl, sym, ◌∙◌, subst, All-weaker, recursion_from_All, none-some, Act, Update, Marry, Seduce, Abandon, Item, Moved, Event, Link, Unlink, Point, Flag, Step, Show, Enabled, Matching, Status, Join, Leave, Refusal, Reply, Accepted, Moves, Shown, EnabledAre, Pairs, Counts, linked, present, State, IsState, RuleTable, IsTarget, IsMoveOf, IsStep, refusal_of, Does, AnswersBy, Answers, spent_after, Entry, Moment, Run, IsMoveIn, arith}
+use Rattle.machine_laws.proofs.Prelude.{◌≡◌, ℕ, List, [], ◌∷◌, ◌++◌, Any, Option, None, Some, IsTrue, refl, sym, subst, All-weaker, recursion_from_All, Act, Item, Moved, Event, Link, Unlink, Point, Flag, Step, Show, Enabled, Matching, Status, Join, Leave, Refusal, Reply, Accepted, Moves, Shown, EnabledAre, Pairs, Counts, present, State, IsState, RuleTable, IsTarget, IsMoveOf, IsStep, refusal_of, Does, AnswersBy, Answers, spent_after, Entry, Moment, Run, IsMoveIn, arith}
 use Rattle.machine_laws.proofs.StatePreservation.{moves_keep}
 use Rattle.machine_laws.proofs.LeastMoves.{IsTable}
 use Rattle.machine_laws.proofs.AcceptedEvents.{IsStepChoice, choice_from_none, taken_at, accepted_keeps}

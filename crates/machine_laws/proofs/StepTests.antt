@@ -1,5 +1,5 @@
 -- The tests of a step's moves are true if the definitions hold.
-use Rattle.machine_laws.proofs.Prelude.{◌≡◌, ◌≢◌, ℕ, Bool, true, false, cond, not, ◌&&◌, List, [], ◌∷◌, length, map, All, Any, Option, None, Some, IsSome, IsTrue, Decides, nat_eq, refl, sym, ap, ◌∙◌, subst, arith, list_any, list_all, IsStrictlyIncreasing, false≢true, true≢false, and_parts, and_from, Decides-and, Decides-not, Decides-eqb, Decides-by_and, Any-from_list_any, list_any-from_Any, none-some, same_Some, Act, Update, Marry, Seduce, Abandon, Item, Moved, State, RuleTable, rule_at, IsAllowedTarget, IsTarget, IsMoveOf, IsStep, after_moves, same_act, is_rule, suits_wish, is_target, is_move_of, is_asked, is_answered, are_of_items}
+use Rattle.machine_laws.proofs.Prelude.{◌≡◌, ◌≢◌, ℕ, Bool, true, false, cond, not, List, [], ◌∷◌, length, map, All, Any, Option, None, Some, IsSome, Decides, nat_eq, refl, arith, list_any, list_all, IsStrictlyIncreasing, false≢true, true≢false, and_parts, and_from, Decides-and, Decides-not, Decides-eqb, Decides-by_and, Any-from_list_any, list_any-from_Any, none-some, same_Some, Act, Item, Moved, State, RuleTable, IsAllowedTarget, IsTarget, IsMoveOf, IsStep, after_moves, same_act, is_rule, suits_wish, is_target, is_move_of, is_asked, is_answered, are_of_items}
 use Rattle.std.proofs.Common.{eq-eqb, eqb-true}
 use Rattle.rule_machine.specs.Step.{takes_target}
 

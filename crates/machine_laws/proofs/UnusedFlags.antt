@@ -1,5 +1,5 @@
 -- If flags are not used, none is ever set.
-use Rattle.machine_laws.proofs.Prelude.{◌≡◌, ◌≢◌, ℕ, ◌+◌, Bool, true, false, cond, not, List, [], ◌∷◌, fold, set, get_or, Option, None, Some, Any, refl, sym, ap, ◌∙◌, ⊎_elim, AllByRecursion, All-weaker, recursion_from_All, true≢false, cases_Bool, Act, Update, Marry, Seduce, Abandon, Item, Moved, Event, Link, Unlink, Point, Flag, Step, Show, Enabled, Matching, Status, Join, Leave, Refusal, NoFlag, Reply, Accepted, Moves, Shown, EnabledAre, Pairs, Counts, State, Registers, flag, flag_of, opening_with, RuleTable, acts, IsMoveOf, written, after_move, refusal_of, Does, AnswersBy, spent_after, Entry, Moment, Run, without_pointer, arith}
+use Rattle.machine_laws.proofs.Prelude.{◌≡◌, ◌≢◌, ℕ, ◌+◌, false, List, [], ◌∷◌, fold, set, get_or, Option, None, Any, refl, ap, ◌∙◌, AllByRecursion, All-weaker, recursion_from_All, true≢false, cases_Bool, Act, Update, Item, Moved, Event, Link, Unlink, Point, Flag, Step, Show, Enabled, Matching, Status, Join, Leave, Refusal, Reply, Accepted, Moves, Shown, EnabledAre, Pairs, Counts, State, Registers, flag, flag_of, opening_with, RuleTable, IsMoveOf, written, after_move, refusal_of, Does, AnswersBy, spent_after, Entry, Moment, Run, without_pointer, arith}
 use Rattle.machine_laws.proofs.LeastMoves.{find_passes}
 use Rattle.machine_laws.proofs.Writes.{without_pointer_flags}
 use Rattle.machine_laws.proofs.StatePreservation.{flag_left, blank_flag}

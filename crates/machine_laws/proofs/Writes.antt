@@ -1,5 +1,5 @@
 -- The values of registers after a write.
-use Rattle.machine_laws.proofs.Prelude.{◌≡◌, ℕ, ◌⊎◌, inl, inr, ◌<◌, ◌≤◌, Bool, true, false, cond, List, length, Option, None, Some, IfSome, refl, sym, ap, ◌∙◌, subst, ⊎_elim, arith, get_or, set, get_or-set_same, get_or-set_other, get_or_past, set_past, length-set, cases_lt, cases_eq, true≢false, eq-eqb, eqb-true, Registers, pointer_of, flag_of, is_at, points, with_pointer, with_flag, without_pointer}
+use Rattle.machine_laws.proofs.Prelude.{◌≡◌, ℕ, ◌⊎◌, inl, inr, ◌<◌, Bool, true, false, cond, List, length, Option, None, Some, IfSome, refl, sym, ap, ◌∙◌, subst, ⊎_elim, arith, get_or, set, get_or-set_same, get_or-set_other, get_or_past, set_past, length-set, cases_lt, cases_eq, true≢false, eq-eqb, Registers, pointer_of, flag_of, is_at, points, with_pointer, with_flag, without_pointer}
 
 -- a fact about an option's value follows from the fact for each value that it may have, and conversely
 pub if_some_from : {X : Type 0} (o : Option X) (P : X → Type 0) → ((x : X) → o ≡ Some x → P x) → IfSome o P

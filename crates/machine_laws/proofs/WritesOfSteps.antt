@@ -1,6 +1,6 @@
 -- The registers of each node after the moves of a step.
 use Rattle.machine_laws.proofs.ChargePrelude.{◌≡◌, ℕ, ◌<◌, ◌≤◌, Bool, true, false, List, [], ◌∷◌, length, map, fold, count_by, Option, None, IsTrue, nat_eq, refl, sym, ap, ◌∙◌, subst, inl, inr, ◌⊎◌, arith, nat_cmp_total, AllByRecursion, IsDistinct, list_any, IsStrictlyIncreasing, nat_cmp, eq_by_cmp, cases_eq, or_from, or_left, or_right, eq-eqb, ne_eqb, true≢false, eq_by_cmp_equiv, length-map, length-set, IsDistinct-from_sorted, IsDistinct-head, IsDistinct-tail, sorted_from_strictly_increasing, Act, Update, Abandon, Moved, State, Registers, pointer_of, flag_of, married, written, after_move, pointer-with_pointer_other, pointer-with_pointer_same, flag-with_flag_other, flag-with_flag_same}
-use Rattle.machine_laws.proofs.ListCounts.{IsIn, IsWithoutRepeats, count_into, count_all}
+use Rattle.machine_laws.proofs.ListCounts.{IsIn, IsWithoutRepeats, count_within, count_all}
 
 -- the pointer of a node after its move, and the flag after its move
 abbrev pub pointer_after_act : Act → Option ℕ → Option ℕ → Option ℕ
@@ -100,11 +100,4 @@ node_is_moved (m ∷ moves) v (inr there) = or_right (nat_eq m.node v) (is_mover
 pub moves_counted : (moves : List Moved) (xs : List ℕ) → IsWithoutRepeats (map (λ m. m.node) moves) → ((v : ℕ) → IsIn v (map (λ m. m.node) moves) → IsIn v xs) → length moves ≤ count_by (is_mover_in moves) xs
 moves_counted moves xs single within =
     let nodes = map (λ (m : Moved). m.node) moves in
-    let all = count_all nodes in
-    let len = length-map moves (λ (m : Moved). m.node) in
-    let into = count_into (λ v. true) nodes (λ v. v) (is_mover_in moves) xs single (record {
-      lands = λ v there h. within v there;
-      passes = λ v there h. node_is_moved moves v there;
-      apart = λ v w there also h k same. same;
-    }) in
-    omega (arith, all, len, into)
+    omega (arith, count_all nodes, length-map moves (λ (m : Moved). m.node), count_within (λ v. true) (is_mover_in moves) nodes xs single (λ v there h. (within v there, node_is_moved moves v there)))

@@ -1,22 +1,13 @@
 -- If the charge is zero the network is stable.
-use Rattle.machine_laws.proofs.ChargePrelude.{◌≡◌, ℕ, Bool, true, false, cond, count_by, sum_by, None, Some, Option, is_none, is_at, ◌&&◌, ◌||◌, has_suitor, sym, ap, ◌∙◌, arith, not-false, true≢false, none-some, same_Some, edge, linked, names, edge_list, State, IsState, pointer, flag, married, is_unanswered, hsu_huang_closed, hsu_huang_charge, manne_node_charge, manne_charge, IsStable, null_unmarried, if_some_from, ◌+◌, ◌*◌, ◌≤◌, not, points, manne_closed}
+use Rattle.machine_laws.proofs.ChargePrelude.{◌≡◌, ℕ, Bool, true, false, cond, count_by, sum_by, None, Some, Option, is_none, is_at, ◌&&◌, ◌||◌, has_suitor, arith, not-false, true≢false, edge, linked, names, edge_list, State, IsState, pointer, flag, married, is_unanswered, hsu_huang_closed, hsu_huang_charge, manne_node_charge, manne_charge, IsStable, null_unmarried, points_true, if_some_from, ◌+◌, ◌*◌, ◌≤◌, not, points, manne_closed}
 use Rattle.machine_laws.proofs.ListCounts.{count_none, sum_zero, sum_add, sum_agree}
 use Rattle.machine_laws.proofs.Members.{in_names, in_edges, edge_either}
-use Rattle.machine_laws.proofs.Stances.{StanceCase, stance_cases, free, waiting, paired, stance, is_waiting, unanswered_is}
 use Rattle.machine_laws.proofs.PresentMovers.{pointer_present}
 use Rattle.machine_laws.proofs.PaidMoves.{IsSeen, seen}
 
 -- with no unanswered pointer among the names there is none
 pub all_answered : (s : State) → IsState s → count_by (is_unanswered s) (names s.network) ≡ 0 → (v w : ℕ) → pointer s v ≡ Some w → pointer s w ≡ Some v
-all_answered s good none v w e = by_stance (stance_cases (pointer s) v)
-  where
-    answered : is_waiting (stance (pointer s) v) ≡ false
-    answered = sym (unanswered_is s v) ∙ count_none (is_unanswered s) (names s.network) none v (in_names s.network v (pointer_present s v w good e))
-
-    by_stance : StanceCase (pointer s) v → pointer s w ≡ Some v
-    by_stance (free null is) = absurd (none-some w (sym null ∙ e))
-    by_stance (waiting x at alone is) = absurd (true≢false (ap is_waiting (sym is) ∙ answered))
-    by_stance (paired x at back is) = ap (pointer s) (same_Some w x (sym e ∙ at)) ∙ back
+all_answered s good none v w e = grind (arith, count_none, in_names, pointer_present, points_true)
 
 -- a closed edge with two null ends has a suitor at each, whose pointer is not answered
 null_ends_open : (s : State) → IsState s → ((v w : ℕ) → pointer s v ≡ Some w → pointer s w ≡ Some v) → (a b : ℕ) → pointer s a ≡ None → pointer s b ≡ None → hsu_huang_closed s (a, b) ≡ true → ⊥

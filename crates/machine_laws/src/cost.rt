@@ -17,6 +17,7 @@ ghost use Rattle.rule_machine.specs.ChargeLaws.{AddsAtMost};
 ghost use Rattle.machine_laws.specs.Laws.{DisturbedMovesArePaid};
 
 /// The charge of a stable network is 0 (Hsu and Huang) or its number of unmarried nodes (Manne).
+#[tactic(auto, using(crate::proofs::StableCharge::hsu_huang_stable_is_zero, crate::proofs::ManneStableCharge::manne_stable_charge))]
 pub fn stable_charge()
     ensures hsu_huang { (s : State) → IsState s → IsStable false s → hsu_huang.charge s ≡ 0 }
     ensures manne { (s : State) → IsState s → IsStable true s → manne.charge s + 2 * length (mutual_pairs s) ≡ node_count s.network }
@@ -25,6 +26,7 @@ pub fn stable_charge()
 /// An accepted disturbance adds at most its cost to the charge.
 ///
 /// The cost is a sum of degrees of the nodes that the disturbance touches (`specs/Costs`).
+#[tactic(auto, using(crate::proofs::CostsOfRuns::hsu_huang_disturbed, crate::proofs::CostsOfRuns::manne_disturbed))]
 pub fn disturbances_cost()
     ensures hsu_huang { AddsAtMost hsu_huang_cost hsu_huang }
     ensures manne { AddsAtMost manne_cost manne }
@@ -42,6 +44,7 @@ pub fn disturbed_moves_are_paid()
 ///
 /// By Hsu and Huang's rules nothing is added, whatever the size of the network. By Manne's rules the bound
 /// is 2 more for each mutual pair more at the end than at the start, and 1 more for each node fewer.
+#[tactic(auto, using(crate::proofs::CostsOfRuns::hsu_huang_stable_costs, crate::proofs::CostsOfRuns::manne_stable_costs))]
 pub fn stable_moves_are_paid()
     ensures hsu_huang { (start : Moment) → IsState start.state → IsStable false start.state → (path : List (Entry × State)) → IsPath hsu_huang start path
         → moves_in (path_entries path) ≤ path_cost hsu_huang_cost start.state path }
@@ -54,6 +57,7 @@ pub fn stable_moves_are_paid()
 ///
 /// By Hsu and Huang's rules nothing is added, whatever the size of the network. By Manne's rules the bound
 /// is 2 more for each mutual pair more at the end than before the disturbance, and 1 more if a node left.
+#[tactic(auto, using(crate::proofs::CostsOfRuns::hsu_huang_one, crate::proofs::CostsOfRuns::manne_one))]
 pub fn one_disturbance_pays()
     ensures hsu_huang { (s : State) → IsState s → IsStable false s → (spent : ℕ) (event : Event) (after : State) → Answers hsu_huang s spent event Accepted after
         → (log : List Entry) (end : Moment) → Run hsu_huang (record { state = after; spent = 0 }) log end → IsUndisturbed log

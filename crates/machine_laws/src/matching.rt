@@ -16,6 +16,7 @@ pub fn mutual_pairs_apart()
 {}
 
 /// In a stable network the mutual pairs are a maximal matching.
+#[tactic(auto, using(crate::proofs::MaximalMatchings::maximal_from_stable))]
 pub fn stable_is_maximal()
     ensures { (uses_flags : Bool) (s : State) → IsState s → IsStable uses_flags s → IsMaximalMatching s.network (mutual_pairs s) }
 {}
@@ -24,6 +25,7 @@ pub fn stable_is_maximal()
 ///
 /// Consistent: the target of each pointer points back and, if flags are used, each flag is true exactly if
 /// its node is married.
+#[tactic(auto, using(crate::proofs::MaximalMatchings::stable_from_maximal))]
 pub fn maximal_is_stable()
     ensures { (uses_flags : Bool) (s : State) → IsState s
         → ((v : ℕ) → IfSome (pointer s v) (λ w. pointer s w ≡ Some v))
@@ -46,6 +48,7 @@ pub fn maximal_is_half()
 {}
 
 /// In a stable network there are at least half as many mutual pairs as edges in any matching.
+#[tactic(auto, using(crate::proofs::HalfMatchings::stable_is_half))]
 pub fn stable_is_half()
     ensures { (uses_flags : Bool) (s : State) → IsState s → IsStable uses_flags s
         → (other : List (ℕ × ℕ)) → IsMatching s.network other → length other ≤ 2 * length (mutual_pairs s) }

@@ -21,7 +21,8 @@ fn is_unmarried_but(net: &NetState, but: &Option<Node>, w: Node) -> bool
     }
 }
 
-fn count_unmarried(net: &NetState, v: Node, but: &Option<Node>) -> u32
+/// How many neighbours of a node are unmarried and not `but`: at most 65,535. Looks at each neighbour.
+pub fn unmarried_neighbours_but(net: &NetState, v: Node, but: &Option<Node>) -> u32
     requires { IsTrue (present net.now.state.network v) }
     ensures count { result ≡ single_neighbours_but net.now.state v but.now }
     ensures few { result ≤ 65535 }
@@ -35,15 +36,6 @@ fn count_unmarried(net: &NetState, v: Node, but: &Option<Node>) -> u32
     count
 }
 
-/// How many neighbours of a node are unmarried and not `but`: at most 65,535. Looks at each neighbour.
-pub fn unmarried_neighbours_but(net: &NetState, v: Node, but: Option<Node>) -> u32
-    requires { IsTrue (present net.now.state.network v) }
-    ensures count { result ≡ single_neighbours_but net.now.state v but }
-    ensures few { result ≤ 65535 }
-{
-    count_unmarried(net, v, &but)
-}
-
 /// How many neighbours of a node are unmarried: at most 65,535. Looks at each neighbour.
 #[tactic(auto, using(crate::specs::Unmarried::without_exception))]
 pub fn unmarried_neighbours(net: &NetState, v: Node) -> u32
@@ -51,7 +43,7 @@ pub fn unmarried_neighbours(net: &NetState, v: Node) -> u32
     ensures count { result ≡ single_neighbours net.now.state v }
     ensures few { result ≤ 65535 }
 {
-    unmarried_neighbours_but(net, v, None)
+    unmarried_neighbours_but(net, v, &None)
 }
 
 /// Whether two nodes point at each other.

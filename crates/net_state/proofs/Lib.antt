@@ -5,3 +5,4 @@ pub mod NodeRecords
 pub mod Rounds
 pub mod NetworkBuilding
 pub mod LineOrders
+pub mod EdgeCounts

@@ -25,10 +25,9 @@ IsDueChange s (Unlinked a b) = IsTrue (linked s.network a b) × ((points s.regis
 IsDueChange s (Joined v) = (1 ≤ v) × ((v ≤ s.network.size) × (present s.network v ≡ false))
 IsDueChange s (Removed v) = IsTrue (present s.network v) × ((neighbours s.network v ≡ []) × (flag s v ≡ false))
 
--- the change leads from the first state to the second; no name's stance changes
+-- the change leads from the first state to the second
 pub record IsChange (before : StateView) (change : Change) (now : StateView) : Type 0 where
   pub was_state : IsState before.state
   pub is_state : IsState now.state
   pub due : IsDueChange before.state change
   pub made : now.state ≡ changed_state before.state change
-  pub ends : now.ends ≡ before.ends

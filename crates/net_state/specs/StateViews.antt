@@ -5,18 +5,15 @@ use Rattle.rule_machine.specs.Network.{Network, present}
 use Rattle.rule_machine.specs.State.{State, Registers, is_at, state_code}
 use Rattle.rule_machine.specs.Base.{node_record_at}
 use Rattle.rule_machine.specs.declared.base.NodeRecord.{NodeRecord}
-use Rattle.graph_store.specs.declared.edge_stance.EdgeStance.{EdgeStance}
-use Rattle.graph_store.specs.EdgeStances.{end_code}
 
--- a state, how many more neighbours each name has room for, and the stance of each name towards its edges
+-- a state, and how many more neighbours each name has room for
 pub record StateView : Type 0 where
   pub state : State
   pub room : List ℕ
-  pub ends : List EdgeStance
 
 abbrev pub held_code : Coded StateView
 held_code =
-    code_by (State × (List ℕ × List EdgeStance)) (coded× state_code (coded× (coded_list coded_ℕ) (coded_list end_code))) (λ n. (n.state, (n.room, n.ends))) (λ p. record { state = p.0; room = p.1.0; ends = p.1.1 }) (λ _. refl)
+    code_by (State × List ℕ) (coded× state_code (coded_list coded_ℕ)) (λ n. (n.state, n.room)) (λ p. record { state = p.0; room = p.1 }) (λ _. refl)
 
 abbrev pub state_of : Network → Registers → State
 state_of net registers = record { network = net; registers = registers }

@@ -1,6 +1,6 @@
 //! Edits that an observer follows, and the disturbances and moves that consist of several of them.
 
-ghost use Rattle.std.specs.Prelude.{◌≡◌, ◌≤◌, All, IfSome, IsTrue, MatchOption, None, [], false, fold};
+ghost use Rattle.std.specs.Prelude.{◌≡◌, ◌≤◌, All, Bool, IfSome, IsTrue, List, MatchOption, None, [], false, fold};
 ghost use Rattle.graph_store.specs.Fault.{link_fault};
 ghost use Rattle.graph_store.specs.Graph.{HasRoomFor};
 ghost use Rattle.rule_machine.specs.Network.{present, linked, neighbours, without_edge};
@@ -34,6 +34,7 @@ pub fn set_pointer<O: Observer>(net: &mut NetState, seen: &mut O, v: Node, targe
     requires fits { O.fits net.old seen.old }
     ensures value { net.new.state ≡ after_point net.old.state v target }
     ensures fits { O.fits net.new seen.new }
+    ensures stays { (names : List Bool) → O.stays names seen.old → O.stays names seen.new }
 {
     let change = net.set_pointer(v, target);
     seen.saw(net, change);
@@ -47,6 +48,7 @@ pub fn set_flag<O: Observer>(net: &mut NetState, seen: &mut O, v: Node, value: b
     ensures value { net.new.state ≡ after_flag net.old.state v value }
     ensures sound { IsState net.new.state }
     ensures fits { O.fits net.new seen.new }
+    ensures stays { (names : List Bool) → O.stays names seen.old → O.stays names seen.new }
 {
     // Gives the prover `IsState`.
     let _ = net.registers();
@@ -166,6 +168,7 @@ fn write_flags<O: Observer>(net: &mut NetState, seen: &mut O, moves: &[Moved])
     ensures registers { net.new.state.registers ≡ fold flag_read net.old.state.registers moves.now }
     ensures network { net.new.state.network ≡ net.old.state.network }
     ensures fits { O.fits net.new seen.new }
+    ensures stays { (names : List Bool) → O.stays names seen.old → O.stays names seen.new }
 {
     for moved in moves {
         if moved.act == Act::Update {
@@ -181,6 +184,7 @@ fn write_pointers<O: Observer>(net: &mut NetState, seen: &mut O, moves: &[Moved]
     ensures registers { net.new.state.registers ≡ fold pointer_written net.old.state.registers moves.now }
     ensures network { net.new.state.network ≡ net.old.state.network }
     ensures fits { O.fits net.new seen.new }
+    ensures stays { (names : List Bool) → O.stays names seen.old → O.stays names seen.new }
 {
     for moved in moves {
         match moved.act {
@@ -197,6 +201,7 @@ pub fn make_moves<O: Observer>(net: &mut NetState, seen: &mut O, moves: &[Moved]
     requires fits { O.fits net.old seen.old }
     ensures value { net.new.state ≡ after_moves net.old.state moves.now }
     ensures fits { O.fits net.new seen.new }
+    ensures stays { (names : List Bool) → O.stays names seen.old → O.stays names seen.new }
 {
     // Gives the prover `IsState`.
     let _ = net.registers();

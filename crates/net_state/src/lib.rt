@@ -9,9 +9,13 @@
 //! functions make an edit and pass its change to the observer; `unlink`, `leave` and `make_moves` consist of
 //! several edits.
 //!
+//! `OpenEdges` has a stance of each node on its edges (`set_stance`), and counts the edges that are open by the
+//! stances of both ends. Like an observer it follows each change (`follow`).
+//!
 //! A base's lines become a state by `NetState::from_lines`, if a state has them.
 //!
-//! Only `with_present`, `from_lines`, `reserve_link`, `link`, `list_edges` and `list_places` take memory.
+//! Only `with_present`, `from_lines`, `reserve_link`, `link`, `list_edges`, `list_places` and `OpenEdges::new`
+//! take memory.
 //!
 //! ```rust
 //! net.reserve_link(a, b)?;                          // may refuse, and changes nothing
@@ -23,9 +27,11 @@
 
 mod change;
 mod disturb;
+mod edge_stance;
 mod lines;
 mod net;
 mod observer;
+mod open_edges;
 mod places;
 mod steps;
 
@@ -33,6 +39,8 @@ pub use change::Change;
 pub use disturb::{
     join, leave, link_reserved, make_moves, remove_edge, remove_node, set_flag, set_pointer, unlink,
 };
+pub use edge_stance::EdgeStance;
 pub use lines::{edges_ascend, has_flag, names_rise};
 pub use net::NetState;
 pub use observer::Observer;
+pub use open_edges::OpenEdges;

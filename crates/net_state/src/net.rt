@@ -3,7 +3,6 @@
 ghost use Rattle.std.specs.Prelude.{◌≡◌, ◌≤◌, ◌&&◌, All, IfOk, IfErr, IsTrue, OnOk, length, nat_le};
 ghost use Rattle.rule_machine.specs.Network as network;
 ghost use Rattle.rule_machine.specs.State as state;
-ghost use Rattle.graph_store.specs.EdgeStances.{open_edges};
 ghost use Rattle.graph_store.specs.Fault.{nodes_fault, ExplainsGraphFault};
 
 use graph_store::{EdgeStore, GraphFault};
@@ -14,8 +13,7 @@ use std::marker::Model;
 
 /// The neighbour lists and the registers of a network.
 ///
-/// Contracts see the state, how many more neighbours each name has room for, and the stance of each name
-/// towards its edges.
+/// Contracts see the state, and how many more neighbours each name has room for.
 #[derive(Drop)]
 pub struct NetState {
     pub(crate) store: EdgeStore,
@@ -30,7 +28,7 @@ impl Model for NetState {
 
     ghost coded = { held_code };
 
-    ghost view = { λ n. record { state = state_of n.store.network n.registers; room = n.store.room; ends = n.store.ends } };
+    ghost view = { λ n. record { state = state_of n.store.network n.registers; room = n.store.room } };
 
     ghost invariant = { λ n. IsState (state_of n.store.network n.registers) };
 }
@@ -59,7 +57,6 @@ impl NetState {
     pub fn store(&self) -> &EdgeStore
         ensures network { result.now.network ≡ self.now.state.network }
         ensures room { result.now.room ≡ self.now.room }
-        ensures ends { result.now.ends ≡ self.now.ends }
         ensures sound { state.IsState self.now.state }
     {
         &self.store
@@ -108,14 +105,6 @@ impl NetState {
         ensures few { IfOk result (λ edges. length edges.items ≤ 1048576) }
     {
         self.store.list()
-    }
-
-    /// How many edges are open by the stances of their ends. One look.
-    pub fn open_edges(&self) -> u32
-        ensures count { result ≡ open_edges self.now.state.network self.now.ends }
-        ensures few { result ≤ 1048576 }
-    {
-        self.store.open_edges()
     }
 
     /// Whether a node has this name. One look.

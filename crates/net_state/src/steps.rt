@@ -1,17 +1,16 @@
 //! The edits of a state. Each returns the change that it made.
 
-ghost use Rattle.std.specs.Prelude.{◌≡◌, ◌≤◌, IfErr, IfSome, IsTrue, List, None, OnErr, OnOk, [], false, slice_set};
+ghost use Rattle.std.specs.Prelude.{◌≡◌, ◌≤◌, IfErr, IfSome, IsTrue, List, None, OnErr, OnOk, [], false};
 ghost use Rattle.rule_machine.specs.Network.{present, linked, neighbours, without_edge};
 ghost use Rattle.rule_machine.specs.State.{IsState, flag, points};
 ghost use Rattle.rule_machine.specs.Disturbance.{after_link, after_point, after_flag, after_join};
 ghost use Rattle.graph_store.specs.Fault.{link_fault, ExplainsGraphFault};
 ghost use Rattle.graph_store.specs.Graph.{HasRoomFor};
-ghost use Rattle.graph_store.specs.EdgeStances.{end_at};
 ghost use Rattle.net_state.specs.Changes.{IsChange};
 ghost use Rattle.net_state.specs.StateViews.{without_place};
 
 use crate::{Change, NetState};
-use graph_store::{EdgeStance, GraphFault};
+use graph_store::GraphFault;
 use rule_machine::Node;
 
 impl NetState {
@@ -25,7 +24,6 @@ impl NetState {
         ensures ok { OnOk result ((link_fault self.old.state.network a b ≡ None) × (self.new.state ≡ after_link self.old.state a b)) }
         ensures fault { IfErr result (λ fault. ExplainsGraphFault (link_fault self.old.state.network a b) fault) }
         ensures kept { OnErr result (self.new.state ≡ self.old.state) }
-        ensures ends { self.new.ends ≡ self.old.ends }
         ensures sound { IsState self.new.state }
     {
         self.store.link(a, b)
@@ -40,7 +38,6 @@ impl NetState {
         ensures ok { OnOk result ((link_fault self.old.state.network a b ≡ None) × HasRoomFor self.new.room a b) }
         ensures fault { IfErr result (λ fault. ExplainsGraphFault (link_fault self.old.state.network a b) fault) }
         ensures kept { self.new.state ≡ self.old.state }
-        ensures ends { self.new.ends ≡ self.old.ends }
     {
         self.store.reserve_link(a, b)
     }
@@ -120,18 +117,5 @@ impl NetState {
         prove!(v.name() >= 1);
         self.store.join(v).unwrap();
         Change::Joined(v)
-    }
-
-    /// Sets the stance of a name towards its edges. At first every name shuts its edges.
-    ///
-    /// Cost: one look if the stance does not change, else a look at each neighbour; no memory.
-    pub fn set_stance(&mut self, v: Node, end: EdgeStance)
-        requires { v ≤ self.old.state.network.size }
-        ensures told { end_at self.new.ends v ≡ end }
-        ensures ends { self.new.ends ≡ slice_set self.old.ends v end }
-        ensures state { self.new.state ≡ self.old.state }
-        ensures room { self.new.room ≡ self.old.room }
-    {
-        self.store.set_stance(v, end);
     }
 }

@@ -1,5 +1,5 @@
 -- Lists and sums over the names of a network's nodes, by a scan of all names up to its capacity.
-use Rattle.net_totals.proofs.Prelude.{◌≡◌, ℕ, ◌≤◌, Bool, false, cond, ◌&&◌, List, [], ◌∷◌, filter, filter_map, length, sum_by, Option, None, refl, sym, ap, ◌∙◌, arith, range_with_len, true≢false, length-range_with_len, count_by-le-length, length-filter, Network, linked, names, neighbours, present, node_count, State, IsState, partner, is_mutual, mutual_pairs, pair_above, linked_present, near_fails, sum_filter, answered_by}
+use Rattle.net_totals.proofs.Prelude.{◌≡◌, ℕ, ◌≤◌, Bool, false, cond, ◌&&◌, List, [], ◌∷◌, filter, filter_map, sum_by, Option, None, refl, sym, ap, ◌∙◌, arith, range_with_len, true≢false, length-range_with_len, count_by-le-length, length-filter, Network, names, present, node_count, State, IsState, partner, is_mutual, mutual_pairs, pair_above, linked_present, near_fails, sum_filter, answered_by}
 use Rattle.net_totals.proofs.Partners.{partner_answered}
 
 -- what passes both of two filters
@@ -14,13 +14,6 @@ few_names net =
     let most = count_by-le-length (present net) (range_with_len 1 net.size) in
     let all = length-range_with_len 1 net.size in
     omega (arith, kept, most, all)
-
--- a node has at most as many neighbours as there are names
-pub few_neighbours : (net : Network) (v : ℕ) → length (neighbours net v) ≤ net.size
-few_neighbours net v =
-    let kept = length-filter (linked net v) (names net) in
-    let most = count_by-le-length (linked net v) (names net) in
-    omega (arith, kept, most, few_names net)
 
 -- a sum over the nodes, as a scan of all names makes it
 pub names_sum : (f : ℕ → ℕ) (net : Network) → sum_by f (names net) ≡ sum_by (λ v. cond (present net v) (f v) 0) (range_with_len 1 net.size)

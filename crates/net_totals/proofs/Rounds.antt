@@ -1,5 +1,5 @@
 -- A node's contribution depends only on its registers, its neighbours and the nodes that point at it.
-use Rattle.net_totals.proofs.Prelude.{◌≡◌, ℕ, ◌+◌, Bool, true, false, cond, not, ◌&&◌, List, length, count_by, None, Some, is_some, is_none, option_and_then, sym, ap, subst, ◌∙◌, arith, is_in, neighbours, State, IsState, holds_at, points, pair_above, AreNear, IsSameChargeInput, points_true, count_agree, EdgeStance, Shut, Courted, Free, StateView, IsUnaffected, affected_by, IsChange, Change, round_changed, size_kept, IsSameRound, same_suitors, same_marriage, Contribution, closing_at, IsExactAt, AreExactUnlessStale}
+use Rattle.net_totals.proofs.Prelude.{◌≡◌, ℕ, ◌+◌, Bool, true, false, cond, not, ◌&&◌, List, length, count_by, None, Some, is_some, is_none, option_and_then, sym, ap, ◌∙◌, arith, is_in, neighbours, State, IsState, holds_at, points, pair_above, AreNear, IsSameChargeInput, points_true, count_agree, EdgeStance, Shut, Courted, Free, StateView, IsUnaffected, affected_by, IsChange, Change, round_changed, size_kept, IsSameRound, same_suitors, same_marriage, Contribution, closing_at, IsExactAt, AreExactUnlessStale}
 
 pub same_standing : (s u : State) (v : ℕ) → IsSameRound s u v → IsSameChargeInput s u v
 same_standing s u v round = record {
@@ -34,15 +34,14 @@ told_again courted_close closes adds s u ends each lower v near good also round 
     }
 
 -- and so is all that is not stale after a change, if the names whose surroundings it may alter are
-pub told_after : (courted_close : Bool) (closes : State → ℕ → Bool) (adds : State → ℕ → ℕ) (before now : StateView) (change : Change) (each : List Contribution) (lower stale stale' : List Bool) → AreNear closes adds → IsChange before change now → length stale' ≡ length stale → ((v : ℕ) → is_in stale' v ≡ false → (is_in stale v ≡ false) × IsUnaffected (affected_by change) v) → AreExactUnlessStale courted_close closes adds before.state before.ends each lower stale → AreExactUnlessStale courted_close closes adds now.state now.ends each lower stale'
-told_after courted_close closes adds before now change each lower stale stale' near made same_places elsewhere told = record {
+pub told_after : (courted_close : Bool) (closes : State → ℕ → Bool) (adds : State → ℕ → ℕ) (before now : StateView) (change : Change) (ends : List EdgeStance) (each : List Contribution) (lower stale stale' : List Bool) → AreNear closes adds → IsChange before change now → length stale' ≡ length stale → ((v : ℕ) → is_in stale' v ≡ false → (is_in stale v ≡ false) × IsUnaffected (affected_by change) v) → AreExactUnlessStale courted_close closes adds before.state ends each lower stale → AreExactUnlessStale courted_close closes adds now.state ends each lower stale'
+told_after courted_close closes adds before now change ends each lower stale stale' near made same_places elsewhere told = record {
   places = told.places ∙ sizes;
   lower_places = told.lower_places ∙ sizes;
   stale_places = same_places ∙ told.stale_places ∙ sizes;
   told = λ v fresh.
       let was = elsewhere v fresh in
-      subst (λ (l : List EdgeStance). IsExactAt courted_close closes adds now.state l each lower v) (sym made.ends)
-      (told_again courted_close closes adds before.state now.state before.ends each lower v near made.was_state made.is_state (round_changed before now change v made was.1) (told.told v was.0));
+      told_again courted_close closes adds before.state now.state ends each lower v near made.was_state made.is_state (round_changed before now change v made was.1) (told.told v was.0);
 } where
   sizes : before.state.network.size + 1 ≡ now.state.network.size + 1
   sizes = sym (ap (λ n. n + 1) (size_kept before now change made))

@@ -1,5 +1,5 @@
 -- What is kept of each name, at first and after a look.
-use Rattle.net_totals.proofs.Prelude.{◌≡◌, ◌≢◌, ℕ, ◌+◌, ◌≤◌, Bool, true, false, cond, List, length, set, replicate, None, Some, is_some, option_and_then, IsTrue, sym, ap, subst, ◌∙◌, ⊎_elim, arith, cases_eq, le-leb, lt-leb, true≢false, get_or-set_other, get_or-set_same, length-replicate, length-set, is_in, everywhere, EdgeStance, end_at, present, State, points, pointer, opening_with, pair_above, Contribution, closing_at, stance_of, is_lower_end, no_contribution, node_part, contribution_at, IsExactAt, AreExactUnlessStale, IsExactState, IsState, StateView, Option, MatchOption, IfSome, opening_is_state, linked_present, pointer_linked, option_cases}
+use Rattle.net_totals.proofs.Prelude.{◌≡◌, ◌≢◌, ℕ, ◌+◌, ◌≤◌, Bool, true, false, cond, List, length, set, replicate, None, Some, is_some, option_and_then, IsTrue, sym, ap, subst, ◌∙◌, ⊎_elim, arith, cases_eq, le-leb, lt-leb, true≢false, get_or-set_other, get_or-set_same, length-replicate, length-set, is_in, everywhere, EdgeStance, end_at, present, State, points, pointer, pair_above, Contribution, closing_at, stance_of, is_lower_end, no_contribution, node_part, contribution_at, IsExactAt, AreExactUnlessStale, FitsSixteenBits, All, get_or-replicate, IsState, linked_present, pointer_linked, option_cases}
 
 -- of a name without a node no value is kept
 told_nowhere : (courted_close : Bool) (closes : State → ℕ → Bool) (adds : State → ℕ → ℕ) (s : State) (ends : List EdgeStance) (each : List Contribution) (lower : List Bool) (v : ℕ) → present s.network v ≡ false → pointer s v ≡ None → contribution_at each v ≡ no_contribution → is_in lower v ≡ false → IsExactAt courted_close closes adds s ends each lower v
@@ -9,6 +9,11 @@ told_nowhere courted_close closes adds s ends each lower v absent null nothing n
   is_lower = not_lower ∙ sym (ap (λ o. is_some (pair_above v (option_and_then (λ w. cond (points s.registers w v) (Some w) None) o))) null);
   end = λ here. absurd (true≢false (sym here ∙ absent));
 }
+
+-- the contributions of absent names fit sixteen bits
+pub none_light : (places : ℕ) → All FitsSixteenBits (replicate places no_contribution)
+none_light places k d within =
+    subst FitsSixteenBits (sym (get_or-replicate places k no_contribution d (omega (arith, within, length-replicate places no_contribution)))) (omega arith, omega arith)
 
 -- an absent name has a null pointer
 absent_null : (s : State) (v : ℕ) → IsState s → present s.network v ≡ false → pointer s v ≡ None
@@ -37,18 +42,14 @@ told_at_first courted_close closes adds s ends stale good places all = record {
         grind arith
 
 -- what a look at v finds
-pub record IsLook (courted_close : Bool) (closes : State → ℕ → Bool) (adds : State → ℕ → ℕ) (s : State) (v : ℕ) (contribution : Contribution) (is_lower : Bool) (stance : Option EdgeStance) : Type 0 where
+pub record IsLook (courted_close : Bool) (closes : State → ℕ → Bool) (adds : State → ℕ → ℕ) (s : State) (v : ℕ) (contribution : Contribution) (is_lower : Bool) (stance : EdgeStance) : Type 0 where
   pub added : contribution.added ≡ cond (present s.network v) (node_part (adds s) s v) 0
   pub closing : contribution.closing ≡ cond (present s.network v) (closing_at (closes s) s v) 0
   pub lower : is_lower ≡ is_lower_end s.registers v
-  pub end : MatchOption stance (present s.network v ≡ false) (λ it. it ≡ stance_of courted_close s v)
-
-end_told : (o : Option EdgeStance) (here : Bool) (found set : EdgeStance) → MatchOption o (here ≡ false) (λ it. it ≡ found) → IfSome o (λ it. set ≡ it) → IsTrue here → set ≡ found
-end_told None here found set absent done there = absurd (true≢false (sym there ∙ absent))
-end_told (Some it) here found set same done there = done ∙ same
+  pub end : IsTrue (present s.network v) → stance ≡ stance_of courted_close s v
 
 -- a look at a name makes its entry right, and leaves the others
-pub told_next : (courted_close : Bool) (closes : State → ℕ → Bool) (adds : State → ℕ → ℕ) (s : State) (ends ends' : List EdgeStance) (each each' : List Contribution) (lower lower' stale stale' : List Bool) (v : ℕ) (contribution : Contribution) (is_lower : Bool) (stance : Option EdgeStance) → v ≤ s.network.size → each' ≡ set each v contribution → lower' ≡ set lower v is_lower → stale' ≡ set stale v false → IsLook courted_close closes adds s v contribution is_lower stance → IfSome stance (λ it. end_at ends' v ≡ it) → ((w : ℕ) → w ≢ v → end_at ends' w ≡ end_at ends w) → AreExactUnlessStale courted_close closes adds s ends each lower stale → AreExactUnlessStale courted_close closes adds s ends' each' lower' stale'
+pub told_next : (courted_close : Bool) (closes : State → ℕ → Bool) (adds : State → ℕ → ℕ) (s : State) (ends ends' : List EdgeStance) (each each' : List Contribution) (lower lower' stale stale' : List Bool) (v : ℕ) (contribution : Contribution) (is_lower : Bool) (stance : EdgeStance) → v ≤ s.network.size → each' ≡ set each v contribution → lower' ≡ set lower v is_lower → stale' ≡ set stale v false → IsLook courted_close closes adds s v contribution is_lower stance → (IsTrue (present s.network v) → end_at ends' v ≡ stance) → ((w : ℕ) → w ≢ v → end_at ends' w ≡ end_at ends w) → AreExactUnlessStale courted_close closes adds s ends each lower stale → AreExactUnlessStale courted_close closes adds s ends' each' lower' stale'
 told_next courted_close closes adds s ends ends' each each' lower lower' stale stale' v contribution is_lower stance within set_each set_lower set_stale look done others told = record {
   places = ap length set_each ∙ length-set each v contribution ∙ told.places;
   lower_places = ap length set_lower ∙ length-set lower v is_lower ∙ told.lower_places;
@@ -68,7 +69,7 @@ told_next courted_close closes adds s ends ends' each each' lower lower' stale s
       added = ap (λ (it : Contribution). it.added) new_contribution ∙ look.added;
       closing = ap (λ (it : Contribution). it.closing) new_contribution ∙ look.closing;
       is_lower = ap (λ l. is_in l v) set_lower ∙ get_or-set_same lower v is_lower false (omega (arith, told.lower_places)) ∙ look.lower;
-      end = end_told stance (present s.network v) (stance_of courted_close s v) (end_at ends' v) look.end done;
+      end = λ there. done there ∙ look.end there;
     }
 
     there : (w : ℕ) → w ≢ v → IsExactAt courted_close closes adds s ends each lower w → IsExactAt courted_close closes adds s ends' each' lower' w

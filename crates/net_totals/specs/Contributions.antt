@@ -1,9 +1,10 @@
 -- What each node contributes to the totals of its network.
 use Rattle.std.specs.Prelude.{◌≡◌, ℕ, ◌+◌, ◌≤◌, Bool, false, cond, ◌&&◌, List, length, count_by, sum_by, Option, Some, None, is_some, option_and_then, slice_index_or, IsTrue, if◌then◌else◌}
 use Rattle.enabled_set.specs.Members.{is_in}
-use Rattle.graph_store.specs.declared.edge_stance.EdgeStance.{EdgeStance}
-use Rattle.graph_store.specs.declared.edge_stance.EdgeStance.TheVariants.{Shut, Courted, Free}
-use Rattle.graph_store.specs.EdgeStances.{end_at}
+use Rattle.net_state.specs.declared.edge_stance.EdgeStance.{EdgeStance}
+use Rattle.net_state.specs.declared.edge_stance.EdgeStance.TheVariants.{Shut, Courted, Free}
+use Rattle.net_state.specs.EdgeStances.{end_at, CountsOpenEdges}
+use Rattle.net_state.specs.declared.open_edges.OpenEdges.{OpenEdges}
 use Rattle.rule_machine.specs.Network.{present, neighbours}
 use Rattle.rule_machine.specs.State.{State, Registers, IsState, is_at, points, is_unanswered, married}
 use Rattle.rule_machine.specs.Stable.{pair_above}
@@ -65,7 +66,8 @@ pub record AreExactUnlessStale (courted_close : Bool) (closes : State → ℕ �
   pub stale_places : length stale ≡ s.network.size + 1
   pub told : (v : ℕ) → is_in stale v ≡ false → IsExactAt courted_close closes adds s ends each lower v
 
--- the state is valid, and the entries of each name that is not stale are right
-abbrev pub IsExactState : Bool → (State → ℕ → Bool) → (State → ℕ → ℕ) → StateView → List Contribution → List Bool → List Bool → Type 0
-IsExactState courted_close closes adds held each lower stale =
-    IsState held.state × AreExactUnlessStale courted_close closes adds held.state held.ends each lower stale
+-- the state is valid, the entries of each name that is not stale are right, and the open edges are counted
+pub record IsExactState (courted_close : Bool) (closes : State → ℕ → Bool) (adds : State → ℕ → ℕ) (held : StateView) (open_edges : OpenEdges) (each : List Contribution) (lower stale : List Bool) : Type 0 where
+  pub sound : IsState held.state
+  pub exact : AreExactUnlessStale courted_close closes adds held.state open_edges.stances.items each lower stale
+  pub counted : CountsOpenEdges held.state.network open_edges

@@ -1,12 +1,12 @@
 //! What a name contributes to the totals of its network.
 
-ghost use Rattle.std.specs.Prelude.{◌≡◌, ◌&&◌, ◌≤◌, false, not, cond, IsTrue, MatchOption};
+ghost use Rattle.std.specs.Prelude.{◌≡◌, ◌&&◌, ◌≤◌, false, not, cond, IsTrue};
 ghost use Rattle.rule_machine.specs.Network.{present};
 ghost use Rattle.rule_machine.specs.State.{State, IsState, holds_at, points};
 ghost use Rattle.rule_machine.specs.ChargeInputs.{IsChargeInput};
 ghost use Rattle.net_totals.specs.Contributions.{closing_at, stance_of, is_lower_end, node_part};
 
-use graph_store::EdgeStance;
+use net_state::EdgeStance;
 use registers::Registers;
 use rule_machine::{ChargeInput, Node, Rules};
 use suitor_index::IndexedNet;
@@ -131,12 +131,12 @@ pub(crate) fn is_lower_end<R: Rules>(index: &IndexedNet<'_, R>, v: Node) -> bool
     }
 }
 
-/// The stance of node `v` towards its edges; `None` if `v` is absent.
-pub(crate) fn end_at<R: Rules>(index: &IndexedNet<'_, R>, v: Node) -> Option<EdgeStance>
-    ensures { MatchOption result (present index.now.state.network v ≡ false) (λ end. end ≡ stance_of R.COURTED_PAIR_CLOSES_EDGE index.now.state v) }
+/// The stance of node `v` on its edges; `Shut` if `v` is absent.
+pub(crate) fn stance_at<R: Rules>(index: &IndexedNet<'_, R>, v: Node) -> EdgeStance
+    ensures { IsTrue (present index.now.state.network v) → result ≡ stance_of R.COURTED_PAIR_CLOSES_EDGE index.now.state v }
 {
     if !index.net().has(v) {
-        return None;
+        return EdgeStance::Shut;
     }
-    Some(end_of::<R>(&standing(index, v)))
+    end_of::<R>(&standing(index, v))
 }

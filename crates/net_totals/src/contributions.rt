@@ -7,14 +7,15 @@ ghost use Rattle.net_state.specs.StateViews.{StateView};
 
 use crate::contribution::{Contribution, NO_CONTRIBUTION};
 use enabled_set::{EnabledSet, Marks};
-use net_state::{Change, NetState, Observer};
+use net_state::{Change, NetState, Observer, OpenEdges};
 use rule_machine::{Node, Rules, Want};
 use std::alloc::Global;
 use std::marker::PhantomData;
 
 /// What each node contributes to the totals under the rules `R`, as of the last look at the node.
 ///
-/// The contribution of a stale name may have changed since. Each change marks at most three names as stale.
+/// The contribution of a stale name, and its stance on its edges, may have changed since. Each change marks at
+/// most three names as stale. The count of open edges follows each change.
 #[derive(Drop)]
 pub struct Contributions<R: Rules> {
     pub(crate) each: Vec<Contribution>,
@@ -22,6 +23,7 @@ pub struct Contributions<R: Rules> {
     pub(crate) closing: u32,
     pub(crate) lower_ends: EnabledSet,
     pub(crate) stale: Marks,
+    pub(crate) open_edges: OpenEdges,
     rules: PhantomData<R>,
     ghost few: { length each.items ≤ 65536 },
     ghost light: { All FitsSixteenBits each.items },
@@ -31,7 +33,7 @@ pub struct Contributions<R: Rules> {
 impl<R: Rules> Contributions<R> {
     /// Contributions that fit any network with names up to `nodes`: all names are stale.
     ///
-    /// Takes 7 bytes and a bit a name; fails only if memory runs out.
+    /// Takes 8 bytes and a bit a name; fails only if memory runs out.
     pub fn new(alloc: Global, nodes: u32) -> Result<Contributions<R>, Want>
         requires { nodes ≤ 65535 }
         ensures { IfOk result (λ it. (net : StateView) → IsState net.state → net.state.network.size ≡ nodes → ⟦<Contributions<R> as Observer>⟧.fits net it) }
@@ -40,12 +42,14 @@ impl<R: Rules> Contributions<R> {
         let lower_ends = EnabledSet::new(alloc, nodes)?;
         let mut stale = Marks::new(alloc, nodes)?;
         stale.mark_all();
+        let open_edges = OpenEdges::new(alloc, nodes)?;
         Ok(Contributions {
             each,
             added: 0,
             closing: 0,
             lower_ends,
             stale,
+            open_edges,
             rules: PhantomData,
         })
     }
@@ -56,6 +60,7 @@ impl<R: Rules> Contributions<R> {
         ensures each { self.new.each.items ≡ slice_set self.old.each.items v contribution }
         ensures lower { self.new.lower_ends ≡ slice_set self.old.lower_ends v is_lower_end }
         ensures stale { self.new.stale ≡ self.old.stale }
+        ensures open { self.new.open_edges ≡ self.old.open_edges }
     {
         let was = self.each[v.place()];
         self.each[v.place()] = contribution;
@@ -66,11 +71,16 @@ impl<R: Rules> Contributions<R> {
 }
 
 impl<R: Rules> Observer for Contributions<R> {
-    ghost fits = { λ net it. IsExactState R.COURTED_PAIR_CLOSES_EDGE R.closes R.adds net it.each.items it.lower_ends it.stale };
+    ghost fits = { λ net it. IsExactState R.COURTED_PAIR_CLOSES_EDGE R.closes R.adds net it.open_edges it.each.items it.lower_ends it.stale };
+
+    ghost stays = { λ names it. Unit {0} };
 
     #[inline(always)]
-    fn saw(&mut self, _net: &NetState, change: Change) {
-        change.mark_names(&mut self.stale);
+    fn saw(&mut self, net: &NetState, change: Change) {
+        // Copied: the prover drops facts about a moved value.
+        let marked = change;
+        self.open_edges.follow(net, change);
+        marked.mark_names(&mut self.stale);
     }
 }
 

@@ -8,7 +8,7 @@
 //!
 //! ```rust
 //! set_pointer(&mut net, &mut contributions, v, Some(w));
-//! let pairs = contributions.totals(&mut net, &suitors).pairs;
+//! let pairs = contributions.totals(&net, &suitors).pairs;
 //! ```
 #![tactic(auto)]
 

@@ -1,5 +1,5 @@
 -- The charge from the stances of the ends and from the counts of the names.
-use Rattle.reply_checker.proofs.Prelude.{◌≡◌, ℕ, ◌+◌, ◌*◌, Bool, true, false, cond, not, ◌&&◌, length, List, [], ◌∷◌, None, is_some, count_by, sum_by, refl, sym, ap, ap₂, ◌∙◌, arith, range_with_len, sum_by-cons, RuleSet, Hh, Manne, present, names, edge_list, State, IsState, is_unanswered, married, partner, is_courted, enabled_names, rule_at, mutual_pairs, pair_above, table_of, hsu_huang_apart, manne_apart, hsu_huang_split, manne_split, sum_add, sum_agree, edges_agree, EdgeStance, Shut, Courted, Free, are_open, end_at, open_edges, Contribution, lower_end_pair, edge_stance_by, closes, flag_charge, adds, absent_contribution, AreFresh, AreStatusSums, AreExactIfFresh, IsContributionAt, summed}
+use Rattle.reply_checker.proofs.Prelude.{◌≡◌, ℕ, ◌+◌, ◌*◌, Bool, true, false, cond, not, ◌&&◌, length, List, [], ◌∷◌, None, is_some, count_by, sum_by, refl, sym, ap, ap₂, ◌∙◌, arith, range_with_len, sum_by-cons, RuleSet, Hh, Manne, present, names, edge_list, State, IsState, is_unanswered, married, partner, is_courted, enabled_names, rule_at, mutual_pairs, pair_above, table_of, hsu_huang_apart, manne_apart, hsu_huang_split, manne_split, sum_add, sum_agree, edges_agree, EdgeStance, Shut, Courted, Free, are_open, end_at, open_edges, Contribution, lower_end_pair, edge_stance_by, closes, flag_charge, adds, absent_contribution, AreFresh, AreStatusSums, AreExactIfFresh, IsContributionAt, summed, OpenEdges}
 use Rattle.reply_checker.proofs.NodeCounts.{kept_count, kept_sum, kept_values, length_filter_map}
 
 -- each node's stance is the state's
@@ -63,8 +63,8 @@ pub record IsCounted (rules : RuleSet) (s : State) (ends : List EdgeStance) (pai
   pub charged : (table_of rules).charge s + 2 * closing ≡ 2 * open_edges s.network ends + added
 
 -- if nothing changed since the last look, the sums are those of the state
-pub counted : (rules : RuleSet) (s : State) (ends : List EdgeStance) (each : List Contribution) (touched due : List Bool) (pairs enabled added closing : ℕ) → AreExactIfFresh rules s ends each touched due → AreFresh touched due → AreStatusSums each pairs enabled added closing → IsCounted rules s ends pairs enabled added closing
-counted rules s ends each touched due pairs enabled added closing told fresh sums = record {
+pub counted : (rules : RuleSet) (s : State) (it : OpenEdges) (each : List Contribution) (touched due : List Bool) (pairs enabled added closing : ℕ) → AreExactIfFresh rules s it each touched due → AreFresh touched due → AreStatusSums each pairs enabled added closing → IsCounted rules s it.stances.items pairs enabled added closing
+counted rules s it each touched due pairs enabled added closing told fresh sums = record {
   paired = sums.paired
       ∙ summed (λ (it : Contribution). cond it.is_lower_end 1 0) (λ v. cond (is_some (lower_end_pair s v)) 1 0) s.network.size each absent_contribution told.places (ap (λ (it : Contribution). cond {A = ℕ} it.is_lower_end 1 0) told.nobody) (λ v. ap (λ b. cond {A = ℕ} b 1 0) (at v).share.is_lower_end)
       ∙ sym (ap length (kept_values (present s.network) (λ v. pair_above v (partner s v)) (lower_end_pair s) (λ v. refl) all) ∙ length_filter_map (lower_end_pair s) all);
@@ -72,7 +72,7 @@ counted rules s ends each touched due pairs enabled added closing told fresh sum
       ∙ summed (λ (it : Contribution). cond (is_some it.rule) 1 0) (λ v. cond (is_some (cond (present s.network v) (rule_at (table_of rules) s v) None)) 1 0) s.network.size each absent_contribution told.places (ap (λ (it : Contribution). cond {A = ℕ} (is_some it.rule) 1 0) told.nobody) (λ v. ap (λ o. cond {A = ℕ} (is_some o) 1 0) (at v).share.rule)
       ∙ sym (kept_count (present s.network) (rule_at (table_of rules) s) all);
   charged =
-      let charge = charge_turned rules s ends told.sound (λ v here. (at v).end here) in
+      let charge = charge_turned rules s it.stances.items told.sound (λ v here. (at v).end here) in
       let more = sums.in_all ∙ summed (λ (it : Contribution). it.added) (λ v. cond (present s.network v) (adds rules s v) 0) s.network.size each absent_contribution told.places (ap (λ (it : Contribution). it.added) told.nobody) (λ v. (at v).share.added) in
       let less = sums.closed ∙ summed (λ (it : Contribution). cond it.closes 1 0) (λ v. cond (cond (present s.network v) (closes rules s v) false) 1 0) s.network.size each absent_contribution told.places (ap (λ (it : Contribution). cond {A = ℕ} it.closes 1 0) told.nobody) (λ v. ap (λ b. cond {A = ℕ} b 1 0) (at v).share.closes) in
       omega (arith, charge, more, less);
@@ -81,5 +81,5 @@ counted rules s ends each touched due pairs enabled added closing told fresh sum
     all : List ℕ
     all = range_with_len 1 s.network.size
 
-    at : (v : ℕ) → IsContributionAt rules s ends each v
+    at : (v : ℕ) → IsContributionAt rules s it.stances.items each v
     at v = told.told v (record { not_due = fresh.none_due v; untouched = λ w asked. fresh.none_touched w })

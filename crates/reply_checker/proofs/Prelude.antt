@@ -12,6 +12,8 @@ pub use Rattle.std.specs.Cmp.{both_ways}
 pub use Rattle.std.specs.List.{range_with_len, cons_option, list_any, list_all}
 pub use Rattle.std.specs.Option.{option_map, option_or}
 pub use Rattle.std.specs.Ordering.{is_lt, nat_cmp}
+pub use Rattle.std.specs.declared.alloc.Global.{Global}
+pub use Rattle.std.specs.declared.vec.Vec.{Vec}
 pub use Rattle.machine_laws.proofs.Bounds.{hsu_huang_bounded, manne_bounded}
 pub use Rattle.machine_laws.proofs.ClosedByPointers.{hsu_huang_split, manne_split}
 pub use Rattle.machine_laws.proofs.EdgesByEnds.{edges_agree}
@@ -23,9 +25,9 @@ pub use Rattle.enabled_set.proofs.MarkChanges.{one_fewer}
 pub use Rattle.enabled_set.proofs.Members.{inside}
 pub use Rattle.enabled_set.proofs.Sums.{summed, one_byte, sum_fits, sum_put, everywhere}
 pub use Rattle.enabled_set.specs.Members.{is_in, members}
-pub use Rattle.graph_store.specs.EdgeStances.{end_at, are_open, open_edges}
-pub use Rattle.graph_store.specs.declared.edge_stance.EdgeStance.{EdgeStance}
-pub use Rattle.graph_store.specs.declared.edge_stance.EdgeStance.TheVariants.{Shut, Courted, Free}
+pub use Rattle.net_state.specs.EdgeStances.{end_at, are_open, open_edges, CountsOpenEdges}
+pub use Rattle.net_state.specs.declared.edge_stance.EdgeStance.{EdgeStance}
+pub use Rattle.net_state.specs.declared.edge_stance.EdgeStance.TheVariants.{Shut, Courted, Free}
 pub use Rattle.machine_laws.proofs.AcceptedEvents.{IsStepChoice, choice_from_none, taken_at}
 pub use Rattle.machine_laws.proofs.AscendingMoves.{ascending_by, is_before}
 pub use Rattle.machine_laws.proofs.Bases.{base_tells}
@@ -40,6 +42,7 @@ pub use Rattle.net_state.proofs.ChangedRounds.{round_changed, names_below, size_
 pub use Rattle.net_state.proofs.Rounds.{IsSameRound, same_suitors, same_partner, same_marriage}
 pub use Rattle.net_state.specs.BaseLines.{HasLines}
 pub use Rattle.net_state.specs.StateViews.{StateView}
+pub use Rattle.net_state.specs.declared.open_edges.OpenEdges.{OpenEdges}
 pub use Rattle.rule_machine.specs.Answer.{Does}
 pub use Rattle.rule_machine.specs.Base.{IsBaseMoment, base_of, node_record_at, node_records}
 pub use Rattle.rule_machine.specs.Charge.{is_courted}

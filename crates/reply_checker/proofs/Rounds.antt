@@ -1,5 +1,5 @@
 -- A name's contribution depends only on the surroundings of the names that it asks.
-use Rattle.reply_checker.proofs.Prelude.{◌≡◌, ℕ, ◌+◌, Bool, true, false, cond, not, ◌&&◌, ◌||◌, List, length, find, nat_eq, nat_lt, nat_le, Option, None, Some, is_some, is_none, IsTrue, refl, sym, ap, ap₂, subst, ◌∙◌, eq-eqb, or_left, or_right, and_from, is_in, Act, Update, Marry, Seduce, Abandon, RuleSet, Hh, Manne, linked, neighbours, State, IsState, is_at, holds_at, is_unanswered, pointer, flag, points, married, has_suitor, hsu_huang, hsu_huang_opens, manne, may_court, is_open, rule_at, pair_above, table_of, near_agree, points_from, pointer_linked, EdgeStance, Shut, Courted, Free, IsSameRound, same_suitors, same_partner, same_marriage, Contribution, asks, closes, edge_stance_by, flag_charge, IsContributionAt, AreExactIfFresh}
+use Rattle.reply_checker.proofs.Prelude.{◌≡◌, ℕ, ◌+◌, Bool, true, false, cond, not, ◌&&◌, ◌||◌, List, length, find, nat_eq, nat_lt, nat_le, Option, None, Some, is_some, is_none, IsTrue, refl, sym, ap, ap₂, subst, ◌∙◌, eq-eqb, or_left, or_right, and_from, is_in, Act, Update, Marry, Seduce, Abandon, RuleSet, Hh, Manne, linked, neighbours, State, IsState, is_at, holds_at, is_unanswered, pointer, flag, points, married, has_suitor, hsu_huang, hsu_huang_opens, manne, may_court, is_open, rule_at, pair_above, table_of, near_agree, points_from, pointer_linked, EdgeStance, Shut, Courted, Free, IsSameRound, same_suitors, same_partner, same_marriage, Contribution, asks, closes, edge_stance_by, flag_charge, IsContributionAt, AreExactIfFresh, OpenEdges, CountsOpenEdges, Vec, Global}
 
 -- two states are the same round all that a name asks
 abbrev pub AreSameRounds : State → State → ℕ → Type 0
@@ -128,8 +128,8 @@ told_again rules s u ends each v good rounds told =
     }
 
 -- and so is all that is fresh, if only what is round a touched name changed
-pub told_after : (rules : RuleSet) (s u : State) (ends ends' : List EdgeStance) (each : List Contribution) (touched touched' due : List Bool) → IsState u → u.network.size ≡ s.network.size → ends' ≡ ends → length touched' ≡ length touched → ((v : ℕ) → is_in touched' v ≡ false → (is_in touched v ≡ false) × IsSameRound s u v) → AreExactIfFresh rules s ends each touched due → AreExactIfFresh rules u ends' each touched' due
-told_after rules s u ends ends' each touched touched' due good size same_ends same_places elsewhere told = record {
+pub told_after : (rules : RuleSet) (s u : State) (it it' : OpenEdges) (each : List Contribution) (touched touched' due : List Bool) → IsState u → u.network.size ≡ s.network.size → it'.stances ≡ it.stances → CountsOpenEdges u.network it' → length touched' ≡ length touched → ((v : ℕ) → is_in touched' v ≡ false → (is_in touched v ≡ false) × IsSameRound s u v) → AreExactIfFresh rules s it each touched due → AreExactIfFresh rules u it' each touched' due
+told_after rules s u it it' each touched touched' due good size same_stances counted same_places elsewhere told = record {
   sound = good;
   places = told.places ∙ places;
   touched_places = same_places ∙ told.touched_places ∙ places;
@@ -139,8 +139,9 @@ told_after rules s u ends ends' each touched touched' due good size same_ends sa
       let here = (elsewhere v (fresh.untouched v (itself u v))).1 in
       let away : (w : ℕ) → asks s v w ≡ true → (is_in touched w ≡ false) × IsSameRound s u w = λ w asked. elsewhere w (fresh.untouched w (sym (same_asks s u v w here) ∙ asked)) in
       let was = told.told v (record { not_due = fresh.not_due; untouched = λ w asked. (away w asked).0 }) in
-      subst (λ (l : List EdgeStance). IsContributionAt rules u l each v) (sym same_ends)
-      (told_again rules s u ends each v told.sound (λ w asked. (away w asked).1) was);
+      subst (λ (l : Vec EdgeStance Global). IsContributionAt rules u l.items each v) (sym same_stances)
+      (told_again rules s u it.stances.items each v told.sound (λ w asked. (away w asked).1) was);
+  counted = counted;
 } where
   places : s.network.size + 1 ≡ u.network.size + 1
   places = sym (ap (λ (n : ℕ). n + 1) size)

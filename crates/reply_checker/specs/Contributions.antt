@@ -11,9 +11,10 @@ use Rattle.rule_machine.specs.RuleTable.{enabled_names, rule_at}
 use Rattle.rule_machine.specs.Stable.{mutual_pairs}
 use Rattle.rule_machine.specs.Tables.{table_of}
 use Rattle.machine_laws.specs.ClosedByPointers.{hsu_huang_closes, manne_closes}
-use Rattle.graph_store.specs.declared.edge_stance.EdgeStance.{EdgeStance}
-use Rattle.graph_store.specs.declared.edge_stance.EdgeStance.TheVariants.{Shut, Courted, Free}
-use Rattle.graph_store.specs.EdgeStances.{end_at}
+use Rattle.net_state.specs.declared.edge_stance.EdgeStance.{EdgeStance}
+use Rattle.net_state.specs.declared.edge_stance.EdgeStance.TheVariants.{Shut, Courted, Free}
+use Rattle.net_state.specs.EdgeStances.{end_at, CountsOpenEdges}
+use Rattle.net_state.specs.declared.open_edges.OpenEdges.{OpenEdges}
 use Rattle.reply_checker.specs.declared.contribution.Contribution.{Contribution}
 use Rattle.reply_checker.specs.declared.totals.Totals.{Totals}
 use Rattle.reply_checker.specs.AscendingLists.{lower_end_pair}
@@ -103,11 +104,12 @@ pub record IsContributionAt (rules : RuleSet) (s : State) (ends : List EdgeStanc
   pub share : IsShare rules s v (contribution_of_name each v)
   pub end : IsTrue (present s.network v) → end_at ends v ≡ edge_stance_by rules s v
 
--- the entries of each fresh name are right
-pub record AreExactIfFresh (rules : RuleSet) (s : State) (ends : List EdgeStance) (each : List Contribution) (touched due : List Bool) : Type 0 where
+-- the entries of each fresh name are right, and the open edges are counted
+pub record AreExactIfFresh (rules : RuleSet) (s : State) (open_edges : OpenEdges) (each : List Contribution) (touched due : List Bool) : Type 0 where
   pub sound : IsState s
   pub places : length each ≡ s.network.size + 1
   pub touched_places : length touched ≡ s.network.size + 1
   pub due_places : length due ≡ s.network.size + 1
   pub nobody : contribution_of_name each 0 ≡ absent_contribution
-  pub told : (v : ℕ) → IsFresh s touched due v → IsContributionAt rules s ends each v
+  pub told : (v : ℕ) → IsFresh s touched due v → IsContributionAt rules s open_edges.stances.items each v
+  pub counted : CountsOpenEdges s.network open_edges

@@ -22,15 +22,15 @@ fn bound(net: &NetState, rules: RuleSet) -> u64
     2 * u64::from(net.edges()) + rules.node_weight() * u64::from(net.nodes())
 }
 
-fn is_within(survey: &mut CountedNet, rules: RuleSet, spent: u32) -> bool
-    ensures within { result ≡ nat_le (spent + (table_of rules).charge survey.old.net.state) (charge_bound (weight_of rules) survey.old.net.state.network) }
-    ensures sound { IsState survey.old.net.state }
-    ensures kept { survey.new.net.state ≡ survey.old.net.state }
+fn is_within(counted: &mut CountedNet, rules: RuleSet, spent: u32) -> bool
+    ensures within { result ≡ nat_le (spent + (table_of rules).charge counted.old.net.state) (charge_bound (weight_of rules) counted.old.net.state.network) }
+    ensures sound { IsState counted.old.net.state }
+    ensures kept { counted.new.net.state ≡ counted.old.net.state }
 {
     // Gives the prover `IsState`.
-    let _ = survey.net.registers();
-    let bound = bound(&survey.net, rules);
-    let charge = u64::from(survey.totals(rules).charge);
+    let _ = counted.net.registers();
+    let bound = bound(&counted.net, rules);
+    let charge = u64::from(counted.totals(rules).charge);
     // Never underflows: the charge alone is within the bound.
     u64::from(spent) <= bound - charge
 }
@@ -76,14 +76,14 @@ impl Judge {
         let Some(net) = NetState::from_lines(alloc, size, nodes, edges)? else {
             return Ok(None);
         };
-        let mut survey = CountedNet::new(alloc, net)?;
-        if !is_within(&mut survey, rules, base.spent) {
+        let mut counted = CountedNet::new(alloc, net)?;
+        if !is_within(&mut counted, rules, base.spent) {
             return Ok(None);
         }
-        if !has_fit_flags(&survey.net, rules, nodes) {
+        if !has_fit_flags(&counted.net, rules, nodes) {
             return Ok(None);
         }
-        Ok(Some(Judge::of_survey(alloc, survey)?))
+        Ok(Some(Judge::of_counted(alloc, counted)?))
     }
 
     /// The base of the present state.
@@ -97,8 +97,8 @@ impl Judge {
         ensures base { IfOk result (λ base. base ≡ base_of number (record { state = self.now; spent = spent })) }
         ensures few { IfOk result (λ base. (length base.nodes ≤ 65535) × (length base.edges ≤ 1048576)) }
     {
-        let nodes = self.survey.net.list_places(alloc)?;
-        let edges = self.survey.net.list_edges()?;
+        let nodes = self.counted.net.list_places(alloc)?;
+        let edges = self.counted.net.list_edges()?;
         Ok(Base {
             number,
             spent,

@@ -9,8 +9,7 @@ ghost use Rattle.reply_checker.specs.Contributions.{IsShare, edge_stance_by};
 ghost use Rattle.reply_checker.specs.AscendingLists.{lower_end_pair};
 
 use crate::rules::{closes, end_of, flag_charge, rule_at};
-use graph_store::EdgeStance;
-use net_state::NetState;
+use net_state::{EdgeStance, NetState};
 use rule_machine::{Act, Node, RuleSet};
 
 /// `added` is what the node adds to the charge apart from its edges.
@@ -30,15 +29,6 @@ pub(crate) const NO_SHARE: Contribution = Contribution {
     added: 0,
     closes: false,
 };
-
-impl Contribution {
-    #[inline(always)]
-    pub(crate) fn is_enabled(&self) -> bool
-        ensures { result ≡ is_some self.now.rule }
-    {
-        self.rule.is_some()
-    }
-}
 
 pub(crate) fn share_of(net: &NetState, rules: RuleSet, v: Node) -> Contribution
     requires { v ≤ net.now.state.network.size }

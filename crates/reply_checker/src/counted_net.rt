@@ -16,12 +16,12 @@ use std::alloc::{AllocError, Global};
 pub(crate) struct CountedNet {
     pub(crate) net: NetState,
     pub(crate) shares: Contributions,
-    ghost told: { AreExactIfFresh shares.rules net.state net.ends shares.each.items shares.touched shares.due } by { Prim.hlevel props },
+    ghost told: { AreExactIfFresh shares.rules net.state shares.open_edges shares.each.items shares.touched shares.due } by { Prim.hlevel props },
 }
 
 impl CountedNet {
     pub(crate) fn new(alloc: Global, net: NetState) -> Result<CountedNet, Want>
-        ensures { IfOk result (λ survey. survey.net.state ≡ net.state) }
+        ensures { IfOk result (λ counted. counted.net.state ≡ net.state) }
     {
         let shares = Contributions::new(alloc, net.capacity())?;
         Ok(CountedNet { net, shares })

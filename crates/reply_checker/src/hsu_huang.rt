@@ -14,8 +14,7 @@ ghost use Rattle.reply_checker.specs.Contributions.{hsu_huang_end};
 
 use crate::callers::calls_any;
 use crate::reads::{degree, first_suitor, freed_edges, has_suitor, pointer, points_back};
-use graph_store::EdgeStance;
-use net_state::NetState;
+use net_state::{EdgeStance, NetState};
 use rule_machine::{Act, Event, Node, RuleSet};
 
 pub(crate) const IS_CENTRAL: bool = true;

@@ -2,13 +2,12 @@
 
 ghost use Rattle.std.specs.Prelude.{◌≡◌, ◌≤◌, false, IsTrue, IfOk, OnErr};
 ghost use Rattle.rule_machine.specs.Answer.{Answers};
-ghost use Rattle.rule_machine.specs.State.{State, opening, opening_with};
+ghost use Rattle.rule_machine.specs.State.{IsState, State, opening, opening_with};
 ghost use Rattle.rule_machine.specs.Tables.{table_of};
-ghost use Rattle.reply_checker.specs.ReplyVerdicts.{IsWrong, IsAcceptedLink, cost_by};
+ghost use Rattle.reply_checker.specs.ReplyVerdicts.{IsWrong, IsAcceptedLink};
 
 use crate::edits::opened;
 use crate::judging::judge_reply;
-use crate::rules::cost_of;
 use crate::{ChosenItems, CountedNet};
 use net_state::NetState;
 use rule_machine::{Event, Reply, RuleSet, Want};
@@ -20,7 +19,7 @@ use std::marker::Model;
 /// Computes guards and targets at each event from the neighbour lists and the registers.
 #[derive(Drop)]
 pub struct Judge {
-    pub(crate) survey: CountedNet,
+    pub(crate) counted: CountedNet,
     chosen: ChosenItems,
 }
 
@@ -32,9 +31,9 @@ impl Model for Judge {
 
     ghost coded = { state_code };
 
-    ghost view = { λ j. j.survey.net.state };
+    ghost view = { λ j. j.counted.net.state };
 
-    ghost invariant = { λ j. IsClearTable j.survey.net.state.network.size j.chosen };
+    ghost invariant = { λ j. IsClearTable j.counted.net.state.network.size j.chosen };
 }
 
 impl Judge {
@@ -57,15 +56,15 @@ impl Judge {
         ensures { IfOk result (λ judge. judge ≡ opening_with nodes present) }
     {
         let net = opened(alloc, nodes, present)?;
-        let survey = CountedNet::new(alloc, net)?;
-        Judge::of_survey(alloc, survey)
+        let counted = CountedNet::new(alloc, net)?;
+        Judge::of_counted(alloc, counted)
     }
 
-    pub(crate) fn of_survey(alloc: Global, survey: CountedNet) -> Result<Judge, Want>
-        ensures { IfOk result (λ judge. judge ≡ survey.net.state) }
+    pub(crate) fn of_counted(alloc: Global, counted: CountedNet) -> Result<Judge, Want>
+        ensures { IfOk result (λ judge. judge ≡ counted.net.state) }
     {
-        let chosen = ChosenItems::new(alloc, survey.net.capacity())?;
-        Ok(Judge { survey, chosen })
+        let chosen = ChosenItems::new(alloc, counted.net.capacity())?;
+        Ok(Judge { counted, chosen })
     }
 
     /// Whether the machine may give this reply to the event. If so, carries the event out.
@@ -96,7 +95,7 @@ impl Judge {
         ensures want { OnErr result (IsAcceptedLink (table_of rules) self.old event.now reply.now) }
     {
         let right = judge_reply(
-            &mut self.survey,
+            &mut self.counted,
             rules,
             spent,
             event,
@@ -109,21 +108,22 @@ impl Judge {
         right
     }
 
+    /// The judge's network, in its present state.
+    #[inline(always)]
+    pub fn net(&self) -> &NetState
+        ensures value { result.now.state ≡ self.now }
+        ensures sound { IsState self.now }
+    {
+        let net = &self.counted.net;
+        // Gives the prover `IsState`.
+        let _ = net.registers();
+        net
+    }
+
     /// The network in the judge's present state.
     pub fn into_net(self) -> NetState
         ensures { result.state ≡ self }
     {
-        self.survey.net
-    }
-
-    /// How much an event may add to the charge if the present state accepts the event.
-    ///
-    /// A sum of degrees of the nodes that the event touches, at most 262,144; 0 for a step and a question.
-    ///
-    /// Cost: a few looks, and one at each neighbour of a node that a fault hits.
-    pub fn cost_of(&self, rules: RuleSet, event: &Event) -> u32
-        ensures { result ≡ cost_by rules self.now event.now }
-    {
-        cost_of(&self.survey.net, rules, event)
+        self.counted.net
     }
 }

@@ -22,25 +22,25 @@ use rule_machine::{Event, Item, Refusal, Reply, RuleSet, Want};
 
 /// As `Judge::replay`; afterwards `chosen` may contain items of the event, if the event is a step.
 pub(crate) fn judge_reply(
-    survey: &mut CountedNet,
+    counted: &mut CountedNet,
     rules: RuleSet,
     spent: u64,
     event: &Event,
     reply: &Reply,
     chosen: &mut ChosenItems,
 ) -> Result<bool, Want>
-    requires { IsClearTable survey.old.net.state.network.size chosen.old }
-    ensures right { IfOk result (λ ok. IsTrue ok → Answers (table_of rules) survey.old.net.state spent event.now reply.now survey.new.net.state) }
-    ensures wrong { IfOk result (λ ok. ok ≡ false → IsWrong (table_of rules) survey.old.net.state spent event.now reply.now survey.new.net.state) }
-    ensures err { OnErr result (survey.new.net.state ≡ survey.old.net.state) }
-    ensures want { OnErr result (IsAcceptedLink (table_of rules) survey.old.net.state event.now reply.now) }
-    ensures size { survey.new.net.state.network.size ≡ survey.old.net.state.network.size }
+    requires { IsClearTable counted.old.net.state.network.size chosen.old }
+    ensures right { IfOk result (λ ok. IsTrue ok → Answers (table_of rules) counted.old.net.state spent event.now reply.now counted.new.net.state) }
+    ensures wrong { IfOk result (λ ok. ok ≡ false → IsWrong (table_of rules) counted.old.net.state spent event.now reply.now counted.new.net.state) }
+    ensures err { OnErr result (counted.new.net.state ≡ counted.old.net.state) }
+    ensures want { OnErr result (IsAcceptedLink (table_of rules) counted.old.net.state event.now reply.now) }
+    ensures size { counted.new.net.state.network.size ≡ counted.old.net.state.network.size }
     ensures within { HasOnlyItemsOf chosen.new (items_of event.now) }
     ensures len { length chosen.new ≡ length chosen.old }
 {
-    match refusal(&survey.net, rules, event, chosen) {
+    match refusal(&counted.net, rules, event, chosen) {
         Some(refusal) => Ok(is_refusal(reply, refusal)),
-        None => judge_accepted(survey, rules, spent, event, reply, chosen),
+        None => judge_accepted(counted, rules, spent, event, reply, chosen),
     }
 }
 
@@ -72,42 +72,42 @@ fn refusal(
 }
 
 fn judge_accepted(
-    survey: &mut CountedNet,
+    counted: &mut CountedNet,
     rules: RuleSet,
     spent: u64,
     event: &Event,
     reply: &Reply,
     chosen: &mut ChosenItems,
 ) -> Result<bool, Want>
-    requires accepted { refusal_of (table_of rules) survey.old.net.state event.now ≡ None }
-    requires held { HasChosenItems (table_of rules) survey.old.net.state chosen.old (items_of event.now) }
-    ensures right { IfOk result (λ ok. IsTrue ok → Does (table_of rules) survey.old.net.state spent event.now reply.now survey.new.net.state) }
-    ensures wrong { IfOk result (λ ok. ok ≡ false → DoesWrong (table_of rules) survey.old.net.state spent event.now reply.now survey.new.net.state) }
-    ensures err { OnErr result (survey.new.net.state ≡ survey.old.net.state) }
+    requires accepted { refusal_of (table_of rules) counted.old.net.state event.now ≡ None }
+    requires held { HasChosenItems (table_of rules) counted.old.net.state chosen.old (items_of event.now) }
+    ensures right { IfOk result (λ ok. IsTrue ok → Does (table_of rules) counted.old.net.state spent event.now reply.now counted.new.net.state) }
+    ensures wrong { IfOk result (λ ok. ok ≡ false → DoesWrong (table_of rules) counted.old.net.state spent event.now reply.now counted.new.net.state) }
+    ensures err { OnErr result (counted.new.net.state ≡ counted.old.net.state) }
     ensures want { OnErr result (IsTrue (is_link event.now) × (reply.now ≡ Reply.Accepted)) }
-    ensures size { survey.new.net.state.network.size ≡ survey.old.net.state.network.size }
+    ensures size { counted.new.net.state.network.size ≡ counted.old.net.state.network.size }
     ensures within { HasOnlyItemsOf chosen.new (items_of event.now) }
     ensures len { length chosen.new ≡ length chosen.old }
 {
-    if !may_accept(survey, rules, spent, event, reply, chosen) {
+    if !may_accept(counted, rules, spent, event, reply, chosen) {
         return Ok(false);
     }
-    follow(survey, rules, event, reply)?;
+    follow(counted, rules, event, reply)?;
     Ok(true)
 }
 
 fn may_accept(
-    survey: &mut CountedNet,
+    counted: &mut CountedNet,
     rules: RuleSet,
     spent: u64,
     event: &Event,
     reply: &Reply,
     chosen: &mut ChosenItems,
 ) -> bool
-    requires accepted { refusal_of (table_of rules) survey.old.net.state event.now ≡ None }
-    requires held { HasChosenItems (table_of rules) survey.old.net.state chosen.old (items_of event.now) }
-    ensures value { IsTrue result ↔ IsRightReply (table_of rules) survey.old.net.state spent event.now reply.now }
-    ensures kept { survey.new.net.state ≡ survey.old.net.state }
+    requires accepted { refusal_of (table_of rules) counted.old.net.state event.now ≡ None }
+    requires held { HasChosenItems (table_of rules) counted.old.net.state chosen.old (items_of event.now) }
+    ensures value { IsTrue result ↔ IsRightReply (table_of rules) counted.old.net.state spent event.now reply.now }
+    ensures kept { counted.new.net.state ≡ counted.old.net.state }
     ensures within { HasOnlyItemsOf chosen.new (items_of event.now) }
     ensures len { length chosen.new ≡ length chosen.old }
 {
@@ -118,11 +118,11 @@ fn may_accept(
         | Event::Flag(_, _)
         | Event::Join(_)
         | Event::Leave(_) => is_accepted(reply),
-        Event::Step(choice) => may_move(&survey.net, rules, choice.items(), reply, chosen),
-        Event::Show(v) => is_shown(pointer(&survey.net, *v), reply),
-        Event::Enabled => are_enabled(survey, rules, reply),
-        Event::Matching => are_mutual(survey, rules, reply),
-        Event::Status => has_counts(survey, rules, spent, reply),
+        Event::Step(choice) => may_move(&counted.net, rules, choice.items(), reply, chosen),
+        Event::Show(v) => is_shown(pointer(&counted.net, *v), reply),
+        Event::Enabled => are_enabled(counted, rules, reply),
+        Event::Matching => are_mutual(counted, rules, reply),
+        Event::Status => has_counts(counted, rules, spent, reply),
     }
 }
 
@@ -146,36 +146,41 @@ fn may_move(
 }
 
 /// Carries out an event with the moves of its right reply.
-fn follow(survey: &mut CountedNet, rules: RuleSet, event: &Event, reply: &Reply) -> Result<(), Want>
-    requires accepted { refusal_of (table_of rules) survey.old.net.state event.now ≡ None }
-    requires right { (spent : ℕ) × IsRightReply (table_of rules) survey.old.net.state spent event.now reply.now }
-    ensures ok { OnOk result (survey.new.net.state ≡ followed survey.old.net.state event.now reply.now) }
-    ensures err { OnErr result (survey.new.net.state ≡ survey.old.net.state) }
+fn follow(
+    counted: &mut CountedNet,
+    rules: RuleSet,
+    event: &Event,
+    reply: &Reply,
+) -> Result<(), Want>
+    requires accepted { refusal_of (table_of rules) counted.old.net.state event.now ≡ None }
+    requires right { (spent : ℕ) × IsRightReply (table_of rules) counted.old.net.state spent event.now reply.now }
+    ensures ok { OnOk result (counted.new.net.state ≡ followed counted.old.net.state event.now reply.now) }
+    ensures err { OnErr result (counted.new.net.state ≡ counted.old.net.state) }
     ensures want { OnErr result (IsTrue (is_link event.now) × (reply.now ≡ Reply.Accepted)) }
 {
     match reply {
-        Reply::Accepted => disturb(survey, event)?,
+        Reply::Accepted => disturb(counted, event)?,
         Reply::Moves(moves) => {
-            make_moves(&mut survey.net, &mut survey.shares, moves.as_slice());
+            make_moves(&mut counted.net, &mut counted.shares, moves.as_slice());
         }
         _ => {}
     }
     Ok(())
 }
 
-fn disturb(survey: &mut CountedNet, event: &Event) -> Result<(), Want>
-    requires accepted { (t : RuleTable) × (refusal_of t survey.old.net.state event.now ≡ None) }
-    ensures ok { OnOk result (survey.new.net.state ≡ disturbed survey.old.net.state event.now) }
-    ensures err { OnErr result (survey.new.net.state ≡ survey.old.net.state) }
+fn disturb(counted: &mut CountedNet, event: &Event) -> Result<(), Want>
+    requires accepted { (t : RuleTable) × (refusal_of t counted.old.net.state event.now ≡ None) }
+    ensures ok { OnOk result (counted.new.net.state ≡ disturbed counted.old.net.state event.now) }
+    ensures err { OnErr result (counted.new.net.state ≡ counted.old.net.state) }
     ensures want { OnErr result (IsTrue (is_link event.now)) }
 {
     match event {
-        Event::Link(a, b) => survey.link(*a, *b)?,
-        Event::Unlink(a, b) => unlink(&mut survey.net, &mut survey.shares, *a, *b),
-        Event::Point(v, target) => survey.point(*v, *target),
-        Event::Flag(v, value) => set_flag(&mut survey.net, &mut survey.shares, *v, *value),
-        Event::Join(v) => join(&mut survey.net, &mut survey.shares, *v),
-        Event::Leave(v) => leave(&mut survey.net, &mut survey.shares, *v),
+        Event::Link(a, b) => counted.link(*a, *b)?,
+        Event::Unlink(a, b) => unlink(&mut counted.net, &mut counted.shares, *a, *b),
+        Event::Point(v, target) => counted.point(*v, *target),
+        Event::Flag(v, value) => set_flag(&mut counted.net, &mut counted.shares, *v, *value),
+        Event::Join(v) => join(&mut counted.net, &mut counted.shares, *v),
+        Event::Leave(v) => leave(&mut counted.net, &mut counted.shares, *v),
         Event::Step(_) | Event::Show(_) | Event::Enabled | Event::Matching | Event::Status => {}
     }
     Ok(())

@@ -5,8 +5,8 @@
 //! the engine's rule sets, so that the judge does not repeat a mistake of the engine. Only the state
 //! (`net_state`) is shared.
 //!
-//! A judge may begin at a base (`at_base`). It returns the base of its state (`base`) and the cost of a
-//! disturbance (`cost_of`).
+//! A judge may begin at a base (`at_base`). It returns the base of its state (`base`) and its network (`net`).
+//! In a network, `rule_at` and `is_enabled` find the enabled rules, and `cost_of` the cost of a disturbance.
 //!
 //! ```rust
 //! let mut judge = Judge::new(alloc, 2)?;
@@ -24,7 +24,6 @@ mod edits;
 mod hsu_huang;
 mod judge;
 mod judging;
-mod looks;
 mod manne;
 mod questions;
 mod reads;
@@ -38,3 +37,4 @@ mod totals;
 use choices::ChosenItems;
 use counted_net::CountedNet;
 pub use judge::Judge;
+pub use rules::{cost_of, is_enabled, rule_at};

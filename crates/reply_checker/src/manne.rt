@@ -15,8 +15,7 @@ ghost use Rattle.reply_checker.specs.Contributions.{manne_end};
 
 use crate::callers::calls_any;
 use crate::reads::{degree, first_suitor, flag, has_suitor, pointer, points_back};
-use graph_store::EdgeStance;
-use net_state::NetState;
+use net_state::{EdgeStance, NetState};
 use rule_machine::{Act, Event, Node, RuleSet};
 
 pub(crate) const IS_CENTRAL: bool = false;

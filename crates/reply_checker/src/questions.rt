@@ -15,27 +15,27 @@ use rule_machine::{Act, Edge, Node, Reply, RuleSet};
 /// Whether a reply lists exactly the enabled nodes, ascending, each with its rule.
 ///
 /// Compares the number of entries with the count of enabled nodes, then checks each entry.
-pub(crate) fn are_enabled(survey: &mut CountedNet, rules: RuleSet, reply: &Reply) -> bool
-    ensures value { IsTrue result ↔ (reply.now ≡ Reply.EnabledAre (enabled (table_of rules) survey.old.net.state)) }
-    ensures kept { survey.new.net.state ≡ survey.old.net.state }
+pub(crate) fn are_enabled(counted: &mut CountedNet, rules: RuleSet, reply: &Reply) -> bool
+    ensures value { IsTrue result ↔ (reply.now ≡ Reply.EnabledAre (enabled (table_of rules) counted.old.net.state)) }
+    ensures kept { counted.new.net.state ≡ counted.old.net.state }
 {
     let Reply::EnabledAre(listing) = reply else {
         return false;
     };
-    let totals = survey.totals(rules);
+    let totals = counted.totals(rules);
     let given = listing.as_slice();
-    given.len() == totals.enabled as usize && are_ruled(survey, given)
+    given.len() == totals.enabled as usize && are_ruled(counted, given)
 }
 
 #[inline(never)]
-fn are_ruled(survey: &CountedNet, given: &[(Node, Act)]) -> bool
-    requires { AreFresh survey.now.shares.touched survey.now.shares.due }
-    ensures { IsTrue result ↔ AreRising (ruled_node (table_of survey.now.shares.rules) survey.now.net.state) 0 given.now }
+fn are_ruled(counted: &CountedNet, given: &[(Node, Act)]) -> bool
+    requires { AreFresh counted.now.shares.touched counted.now.shares.due }
+    ensures { IsTrue result ↔ AreRising (ruled_node (table_of counted.now.shares.rules) counted.now.net.state) 0 given.now }
 {
     let mut last = 0;
     for item in given {
         let (v, act) = *item;
-        if v.name() <= last || !has_rule(survey, v, act) {
+        if v.name() <= last || !has_rule(counted, v, act) {
             return false;
         }
         last = v.name();
@@ -44,27 +44,27 @@ fn are_ruled(survey: &CountedNet, given: &[(Node, Act)]) -> bool
 }
 
 #[inline(always)]
-fn has_rule(survey: &CountedNet, v: Node, act: Act) -> bool
-    requires { AreFresh survey.now.shares.touched survey.now.shares.due }
-    ensures { IsTrue result ↔ (ruled_node (table_of survey.now.shares.rules) survey.now.net.state v ≡ Some (v, act)) }
+fn has_rule(counted: &CountedNet, v: Node, act: Act) -> bool
+    requires { AreFresh counted.now.shares.touched counted.now.shares.due }
+    ensures { IsTrue result ↔ (ruled_node (table_of counted.now.shares.rules) counted.now.net.state v ≡ Some (v, act)) }
 {
-    match survey.rule_of(v) {
+    match counted.rule_of(v) {
         Some(rule) => rule == act,
         None => false,
     }
 }
 
 /// Whether a reply lists exactly the mutual pairs, by ascending lower end.
-pub(crate) fn are_mutual(survey: &mut CountedNet, rules: RuleSet, reply: &Reply) -> bool
-    ensures value { IsTrue result ↔ (reply.now ≡ Reply.Pairs (mutual_pairs survey.old.net.state)) }
-    ensures kept { survey.new.net.state ≡ survey.old.net.state }
+pub(crate) fn are_mutual(counted: &mut CountedNet, rules: RuleSet, reply: &Reply) -> bool
+    ensures value { IsTrue result ↔ (reply.now ≡ Reply.Pairs (mutual_pairs counted.old.net.state)) }
+    ensures kept { counted.new.net.state ≡ counted.old.net.state }
 {
     let Reply::Pairs(listing) = reply else {
         return false;
     };
-    let totals = survey.totals(rules);
+    let totals = counted.totals(rules);
     let given = listing.as_slice();
-    given.len() == totals.pairs as usize && are_pairs(&survey.net, given)
+    given.len() == totals.pairs as usize && are_pairs(&counted.net, given)
 }
 
 #[inline(never)]
@@ -92,15 +92,20 @@ fn is_mutual(net: &NetState, pair: Edge) -> bool
     net.points(low, high) && net.points(high, low)
 }
 
-pub(crate) fn has_counts(survey: &mut CountedNet, rules: RuleSet, spent: u64, reply: &Reply) -> bool
-    ensures value { IsTrue result ↔ (reply.now ≡ Reply.Counts (counts_of (table_of rules) survey.old.net.state spent)) }
-    ensures kept { survey.new.net.state ≡ survey.old.net.state }
+pub(crate) fn has_counts(
+    counted: &mut CountedNet,
+    rules: RuleSet,
+    spent: u64,
+    reply: &Reply,
+) -> bool
+    ensures value { IsTrue result ↔ (reply.now ≡ Reply.Counts (counts_of (table_of rules) counted.old.net.state spent)) }
+    ensures kept { counted.new.net.state ≡ counted.old.net.state }
 {
     match reply {
         Reply::Counts(given) => {
-            let totals = survey.totals(rules);
-            given.nodes == survey.net.nodes()
-                && given.edges == survey.net.edges()
+            let totals = counted.totals(rules);
+            given.nodes == counted.net.nodes()
+                && given.edges == counted.net.edges()
                 && u64::from(given.spent) == spent
                 && given.pairs == totals.pairs
                 && given.enabled == totals.enabled

@@ -10,13 +10,12 @@ ghost use Rattle.reply_checker.specs.ReplyVerdicts.{cost_by};
 ghost use Rattle.reply_checker.specs.Contributions.{closes, edge_stance_by, flag_charge};
 
 use crate::{hsu_huang, manne};
-use graph_store::EdgeStance;
-use net_state::NetState;
+use net_state::{EdgeStance, NetState};
 use rule_machine::{Act, Event, Node, RuleSet};
 
-/// The rule enabled at a node. Looks at neighbours if the pointer is null.
+/// The rule that is enabled at a node, if any. Looks at neighbours if the pointer is null.
 #[inline(always)]
-pub(crate) fn rule_at(net: &NetState, rules: RuleSet, v: Node) -> Option<Act>
+pub fn rule_at(net: &NetState, rules: RuleSet, v: Node) -> Option<Act>
     requires { IsTrue (present net.now.state.network v) }
     ensures { result ≡ table.rule_at (table_of rules) net.now.state v }
 {
@@ -26,8 +25,14 @@ pub(crate) fn rule_at(net: &NetState, rules: RuleSet, v: Node) -> Option<Act>
     }
 }
 
-/// Whether a rule is enabled at a node. If the pointer is null, looks for a caller from index `place` on.
-pub(crate) fn is_enabled(net: &NetState, rules: RuleSet, v: Node, place: &mut u16) -> bool
+/// Whether a rule is enabled at a node.
+///
+/// A neighbour calls the node if it points at the node or the node may court it. `place` is the index in the
+/// neighbour list from which the call looks for a caller. The answer does not depend on it.
+///
+/// Cost: if the node's pointer is null, a look at the neighbours from `place` on, then at those before
+/// `place`, up to the first caller. The call stores this caller's index in `place`.
+pub fn is_enabled(net: &NetState, rules: RuleSet, v: Node, place: &mut u16) -> bool
     requires { IsTrue (present net.now.state.network v) }
     ensures { result ≡ is_some (table.rule_at (table_of rules) net.now.state v) }
 {
@@ -114,7 +119,12 @@ pub(crate) fn end_of(net: &NetState, rules: RuleSet, v: Node, rule: Option<Act>)
     }
 }
 
-pub(crate) fn cost_of(net: &NetState, rules: RuleSet, event: &Event) -> u32
+/// How much an event may add to the charge if the network's state accepts the event.
+///
+/// A sum of degrees of the nodes that the event touches, at most 262,144; 0 for a step and a question.
+///
+/// Cost: a few looks, and one at each neighbour of a node that a fault hits.
+pub fn cost_of(net: &NetState, rules: RuleSet, event: &Event) -> u32
     ensures { result ≡ cost_by rules net.now.state event.now }
 {
     match rules {

@@ -74,7 +74,7 @@ impl CountedNet {
             let share = share_of(&self.net, self.shares.rules, v);
             let end = end_at(&self.net, self.shares.rules, v, share.rule);
             self.shares.put(v, share);
-            self.net.set_stance(v, end);
+            self.shares.open_edges.set_stance(&self.net, v, end);
         }
     }
 
@@ -105,7 +105,7 @@ impl CountedNet {
         ensures { AreTotals self.now.shares.rules self.now.net.state result }
     {
         let shares = &self.shares;
-        let charge = 2 * self.net.open_edges() + shares.added - 2 * shares.closing;
+        let charge = 2 * shares.open_edges.count() + shares.added - 2 * shares.closing;
         Totals {
             pairs: shares.pairs,
             enabled: shares.enabled,

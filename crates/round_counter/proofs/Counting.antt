@@ -1,7 +1,7 @@
 -- A counter before an entry and after it.
-use Rattle.round_counter.proofs.Prelude.{◌≡◌, ℕ, ◌+◌, ◌≤◌, Bool, true, false, cond, not, ◌&&◌, List, [], ◌∷◌, ◌++◌, append_assoc, length, min, filter, is_some, IsTrue, refl, sym, ap, ◌∙◌, subst, inl, inr, ⊎_elim, arith, and_parts, true≢false, false_from_ne_true, cases_Bool, nil_from_length, IsIn, in_kept, kept_in, is_in, members, names, present, in_names, names_present, Network, State, IsState, Event, Reply, Accepted, Refused, Moves, Shown, EnabledAre, Pairs, Counts, Moved, after_moves, followed, RuleTable, rule_at, enabled_names, Entry, IsLocal, stays_pending, round_turn, rounds_by, rounds_from, rounds_in, RoundCount, first_count, next_count, RoundCounter, AreEnabledIn, HasCounted, CanCount, count_in, start_after, log_after, pending_names}
+use Rattle.round_counter.proofs.Prelude.{◌≡◌, ℕ, zero, suc, nat_eq, ◌+◌, ◌≤◌, Bool, true, false, cond, not, ◌&&◌, List, [], ◌∷◌, ◌++◌, append_assoc, length, min, filter, is_some, IsTrue, refl, sym, ap, ◌∙◌, subst, inl, inr, arith, and_from, and_parts, not_from_false, is_mover_in, true≢false, false_from_ne_true, nil_from_length, IsIn, in_kept, kept_in, is_in, members, AreNoted, RemovedNames, names, present, in_names, names_present, Network, State, Event, Reply, Accepted, Refused, Moves, Shown, EnabledAre, Pairs, Counts, Moved, after_moves, followed, RuleTable, rule_at, enabled_names, Entry, stays_pending, round_turn, rounds_by, rounds_from, rounds_in, RoundCount, first_count, next_count, RoundCounter, AreEnabledIn, HasCounted, CanCount, is_step, count_in, start_after, log_after, pending_names}
 use Rattle.round_counter.proofs.Bits.{member_in, in_member}
-use Rattle.round_counter.proofs.Serving.{is_served, unserved_stays}
+use Rattle.round_counter.proofs.Serving.{LeavesPending}
 
 both_ways : (a b : Bool) → (a ≡ true → b ≡ true) → (b ≡ true → a ≡ true) → a ≡ b
 both_ways a b h k = grind arith
@@ -117,29 +117,33 @@ begins_anew t s event reply old c is none new = subst (λ r. IsNext t r s (follo
 
 -- ---- a step
 
-module _ (t : RuleTable) (local : IsLocal t) (s : State) (good : IsState s) (moves : List Moved) (good' : IsState (after_moves s moves)) (e : List Bool) (is : members e ≡ enabled_names t (after_moves s moves)) (old : RoundCounter) (was : (v : ℕ) → IsTrue (is_in old.pending v) → IsTrue (present s.network v) × IsTrue (is_some (rule_at t s v))) (ready : old.is_new ≡ false) (bits : List Bool) (each : (u : ℕ) → is_in bits u ≡ (is_in old.pending u && not (is_served s.network e moves u))) where
-  stays_in : (u : ℕ) → is_in bits u ≡ (is_in old.pending u && stays_pending t moves (after_moves s moves) u)
-  stays_in u =
-      ⊎_elim
-      (λ (on : is_in old.pending u ≡ true).
-      each u ∙ ap (λ b. is_in old.pending u && b) (unserved_stays t local s moves e u good good' (on_is t (after_moves s moves) e u is (was u on).0) (was u on).1))
-      (λ (off : is_in old.pending u ≡ false). each u ∙ none (is_in old.pending u) _ _ off)
-      (cases_Bool (is_in old.pending u))
+-- The step left these bits of the old set, and these are the enabled nodes after it.
+module _ (t : RuleTable) (s : State) (moves : List Moved) (e : List Bool) (is : members e ≡ enabled_names t (after_moves s moves)) (removed : RemovedNames) (old : RoundCounter) (ready : old.is_new ≡ false) (noted : AreNoted old.pending e removed) (bits : List Bool) (step : LeavesPending e removed moves old.pending bits) where
+  left_enabled : (v : ℕ) → IsTrue (is_in bits v) → IsTrue (present s.network v) × IsTrue (is_some (rule_at t (after_moves s moves) v))
+  left_enabled v on = on_names t (after_moves s moves) e v is (step.off noted v on)
+
+  -- at a node
+  stays_in : (u : ℕ) → IsTrue (present s.network u) → is_in bits u ≡ (is_in old.pending u && stays_pending t moves (after_moves s moves) u)
+  stays_in u here =
+      both_ways (is_in bits u) (is_in old.pending u && stays_pending t moves (after_moves s moves) u)
+      (λ on.
+      let left = step.left u on in
+      and_from (is_in old.pending u) (stays_pending t moves (after_moves s moves) u) left.0
+      (and_from (not (is_mover_in moves u)) (is_some (rule_at t (after_moves s moves) u)) (not_from_false (is_mover_in moves u) left.1) (left_enabled u on).1))
+      (λ both.
+      let parts = and_parts (is_in old.pending u) (stays_pending t moves (after_moves s moves) u) both in
+      let stays = and_parts (not (is_mover_in moves u)) (is_some (rule_at t (after_moves s moves) u)) parts.1 in
+      step.stay u parts.0 (on_is t (after_moves s moves) e u is here ∙ stays.1) (not_on (is_mover_in moves u) stays.0))
     where
-      none : (a b c : Bool) → a ≡ false → (a && b) ≡ (a && c)
-      none a b c off = grind arith
+      not_on : (a : Bool) → not a ≡ true → a ≡ false
+      not_on a h = grind arith
 
   -- the nodes left pending are the members
   left_are : filter (is_in bits) (names s.network) ≡ filter (stays_pending t moves (after_moves s moves)) (pending_names t s old)
   left_are =
-      kept_alike (is_in bits) (λ u. is_in old.pending u && stays_pending t moves (after_moves s moves) u) (names s.network) (λ u there. stays_in u)
+      kept_alike (is_in bits) (λ u. is_in old.pending u && stays_pending t moves (after_moves s moves) u) (names s.network) (λ u there. stays_in u (names_present s.network u there))
       ∙ sym (kept_twice (stays_pending t moves (after_moves s moves)) (is_in old.pending) (names s.network))
       ∙ ap (λ b. filter (stays_pending t moves (after_moves s moves)) (cond b (enabled_names t s) (filter (is_in old.pending) (names s.network)))) (sym ready)
-
-  left_enabled : (v : ℕ) → IsTrue (is_in bits v) → IsTrue (present s.network v) × IsTrue (is_some (rule_at t (after_moves s moves) v))
-  left_enabled v on =
-      let both = and_parts (is_in old.pending v) (stays_pending t moves (after_moves s moves) v) (sym (stays_in v) ∙ on) in
-      ((was v both.0).0, (and_parts _ _ both.1).1)
 
 none_left : (bits : List Bool) (net : Network) → length (members bits) ≡ 0 → filter (is_in bits) (names net) ≡ []
 none_left bits net none =
@@ -154,22 +158,26 @@ turn_some : (t : RuleTable) (s : State) (xs : List ℕ) (v : ℕ) → IsIn v xs 
 turn_some t s [] v there = absurd there
 turn_some t s (x ∷ xs) v there = refl
 
+pub some_in : (n : ℕ) → nat_eq n 0 ≡ false → 1 ≤ n
+some_in zero some = absurd (true≢false some)
+some_in (suc n) some = omega arith
+
 first_member : (xs : List ℕ) → 1 ≤ length xs → (v : ℕ) × IsIn v xs
 first_member [] some = absurd (omega (arith, some))
 first_member (x ∷ xs) some = (x, inl refl)
 
--- what the entry does to the counter, if the network and the enabled nodes are these then
-abbrev pub Follows : Network → List Bool → Reply → RoundCounter → RoundCounter → Type 0
-Follows net e reply old new = (t : RuleTable) (s : State) (event : Event) → IsLocal t → IsState s → IsState (followed s event reply) → net ≡ (followed s event reply).network → members e ≡ enabled_names t (followed s event reply) → CanCount reply old → AreEnabledIn t s old → IsNext t reply s (followed s event reply) old new
+-- What the entry does to the counter, if these nodes are enabled then.
+abbrev pub Follows : List Bool → RemovedNames → Reply → RoundCounter → RoundCounter → Type 0
+Follows e removed reply old new = (t : RuleTable) (s : State) (event : Event) → members e ≡ enabled_names t (followed s event reply) → CanCount reply old → (IsTrue (is_step reply) → AreNoted old.pending e removed) → IsNext t reply s (followed s event reply) old new
 
 -- a step that leaves none pending
-pub follows_last : (net : Network) (e : List Bool) (reply : Reply) (moves : List Moved) (old new : RoundCounter) → reply ≡ Moves moves → ((u : ℕ) → is_in new.pending u ≡ (is_in old.pending u && not (is_served net e moves u))) → length (members new.pending) ≡ 0 → new.rounds ≡ min (old.rounds + 1) 4294967295 → new.is_new ≡ true → Follows net e reply old new
-follows_last net e reply moves old new at each none more whole = subst (λ r. Follows net e r old new) (sym at) last
+pub follows_last : (e : List Bool) (removed : RemovedNames) (reply : Reply) (moves : List Moved) (old new : RoundCounter) → reply ≡ Moves moves → LeavesPending e removed moves old.pending new.pending → length (members new.pending) ≡ 0 → new.rounds ≡ min (old.rounds + 1) 4294967295 → new.is_new ≡ true → Follows e removed reply old new
+follows_last e removed reply moves old new at step none more whole = subst (λ r. Follows e removed r old new) (sym at) last
   where
-    last : Follows net e (Moves moves) old new
-    last t s event local good good' same is may was =
+    last : Follows e removed (Moves moves) old new
+    last t s event is may noted =
         let room = (may refl).1 in
-        let left = sym (left_are t local s good moves good' e is old (was (may refl).0) (may refl).0 new.pending (λ u. each u ∙ ap (λ n. is_in old.pending u && not (is_served n e moves u)) same)) in
+        let left = sym (left_are t s moves e is removed old (may refl).0 (noted refl) new.pending step) in
         let turn = ap (round_turn t (after_moves s moves)) (left ∙ none_left new.pending s.network none) in
         let one : new.rounds ≡ old.rounds + 1 = omega (arith, more, room) in
         let rounds = one ∙ ap (λ p. old.rounds + p.0) (sym turn) in
@@ -177,19 +185,18 @@ follows_last net e reply moves old new at each none more whole = subst (λ r. Fo
         (λ i. record { rounds = rounds i; pending = pending i }, λ runs v there. absurd (true≢false (sym whole ∙ runs)))
 
 -- a step that leaves one pending
-pub follows_more : (net : Network) (e : List Bool) (reply : Reply) (moves : List Moved) (old new : RoundCounter) → reply ≡ Moves moves → ((u : ℕ) → is_in new.pending u ≡ (is_in old.pending u && not (is_served net e moves u))) → 1 ≤ length (members new.pending) → new.rounds ≡ old.rounds → new.is_new ≡ old.is_new → Follows net e reply old new
-follows_more net e reply moves old new at each some same_rounds same_new = subst (λ r. Follows net e r old new) (sym at) more
+pub follows_more : (e : List Bool) (removed : RemovedNames) (reply : Reply) (moves : List Moved) (old new : RoundCounter) → reply ≡ Moves moves → LeavesPending e removed moves old.pending new.pending → 1 ≤ length (members new.pending) → new.rounds ≡ old.rounds → new.is_new ≡ old.is_new → Follows e removed reply old new
+follows_more e removed reply moves old new at step some same_rounds same_new = subst (λ r. Follows e removed r old new) (sym at) more
   where
-    more : Follows net e (Moves moves) old new
-    more t s event local good good' same is may was =
+    more : Follows e removed (Moves moves) old new
+    more t s event is may noted =
         let ready = (may refl).0 in
-        let by = λ (u : ℕ). each u ∙ ap (λ n. is_in old.pending u && not (is_served n e moves u)) same in
-        let left = left_are t local s good moves good' e is old (was ready) ready new.pending by in
+        let left = left_are t s moves e is removed old ready (noted refl) new.pending step in
         let first = first_member (members new.pending) some in
         let on = in_member new.pending first.0 first.1 in
-        let here = (left_enabled t local s good moves good' e is old (was ready) ready new.pending by first.0 on).0 in
+        let here = (left_enabled t s moves e is removed old ready (noted refl) new.pending step first.0 on).0 in
         let there = in_kept (is_in new.pending) first.0 (names s.network) on (in_names s.network first.0 here) in
         let turn = turn_some t (after_moves s moves) _ first.0 (subst (λ xs. IsIn first.0 xs) left there) in
         let rounds = same_rounds ∙ add_none old.rounds ∙ ap (λ p. old.rounds + p.0) (sym turn) in
         let pending = ap (λ b. cond b (enabled_names t (after_moves s moves)) (filter (is_in new.pending) (names s.network))) (same_new ∙ ready) ∙ left ∙ ap (λ p. p.1) (sym turn) in
-        (λ i. record { rounds = rounds i; pending = pending i }, λ runs v at. left_enabled t local s good moves good' e is old (was ready) ready new.pending by v at)
+        (λ i. record { rounds = rounds i; pending = pending i }, λ runs v at. left_enabled t s moves e is removed old ready (noted refl) new.pending step v at)

@@ -1,22 +1,16 @@
 -- A counter of rounds: what it has counted, and what an entry does to it.
 use Rattle.std.specs.Prelude.{◌≡◌, ℕ, ◌+◌, ◌<◌, Bool, true, false, cond, List, [], ◌∷◌, ◌++◌, filter, is_some, IsTrue}
 use Rattle.enabled_set.specs.Members.{is_in}
-use Rattle.rule_machine.specs.declared.act.Act.{Act}
 use Rattle.rule_machine.specs.declared.event.Event.{Event}
 use Rattle.rule_machine.specs.declared.reply.Reply.{Reply}
 use Rattle.rule_machine.specs.declared.reply.Reply.TheVariants.{Accepted, Moves}
 use Rattle.rule_machine.specs.Network.{names, present}
-use Rattle.rule_machine.specs.State.{State, IsState}
+use Rattle.rule_machine.specs.State.{State}
 use Rattle.rule_machine.specs.RuleTable.{RuleTable, rule_at, enabled_names}
 use Rattle.rule_machine.specs.Run.{Entry}
-use Rattle.rule_machine.specs.Target.{SameAt}
 use Rattle.round_laws.specs.Rounds.{rounds_in, rounds_from}
 use Rattle.round_laws.specs.RoundCounts.{RoundCount}
 use Rattle.round_counter.specs.declared.counter.RoundCounter.{RoundCounter}
-
--- a guard depends only on the registers of its node and of the node's neighbours
-abbrev pub IsLocal : RuleTable → Type 0
-IsLocal t = (s u : State) (v : ℕ) (act : Act) → IsState s → IsState u → SameAt s u v → t.guard s v act ≡ t.guard u v act
 
 -- the nodes that a counter has pending in state s, ascending
 abbrev pub pending_names : RuleTable → State → RoundCounter → List ℕ

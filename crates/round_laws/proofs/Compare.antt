@@ -1,19 +1,11 @@
 -- Which nodes are pending changes the number of rounds by little: with fewer of them a log completes no fewer
 -- rounds, and whichever they are, at most one more or less.
-use Rattle.round_laws.proofs.Prelude.{◌≡◌, ℕ, ◌+◌, ◌≤◌, Bool, true, false, cond, not, List, [], ◌∷◌, filter, is_some, IsTrue, refl, sym, ap, ◌∙◌, inl, inr, arith, and_parts, Moved, Event, Reply, Accepted, Moves, names, State, RuleTable, rule_at, enabled_names, Entry, followed, IsIn, is_mover_in, stays_pending, round_turn, rounds_from}
+use Rattle.round_laws.proofs.Prelude.{ℕ, ◌+◌, ◌≤◌, not, List, [], ◌∷◌, is_some, IsTrue, refl, inl, arith, and_parts, Moved, Event, Reply, Accepted, Moves, names, State, RuleTable, rule_at, enabled_names, Entry, followed, IsIn, is_mover_in, stays_pending, round_turn, rounds_from}
+pub use Rattle.dense_laws.proofs.Games.{kept_in}
 use Rattle.round_laws.proofs.Counting.{left, in_kept}
 
 abbrev pub IsWithin : List ℕ → List ℕ → Type 0
 IsWithin xs ys = (v : ℕ) → IsIn v xs → IsIn v ys
-
-pub kept_in : (p : ℕ → Bool) (v : ℕ) (xs : List ℕ) → IsIn v (filter p xs) → IsTrue (p v) × IsIn v xs
-kept_in p v [] at = absurd at
-kept_in p v (x ∷ xs) at = go (p x) refl (λ there. kept_in p v xs there) at
-  where
-    go : (b : Bool) → p x ≡ b → (IsIn v (filter p xs) → IsTrue (p v) × IsIn v xs) → IsIn v (cond b (x ∷ filter p xs) (filter p xs)) → IsTrue (p v) × IsIn v (x ∷ xs)
-    go true e more (inl same) = (sym (ap p same) ∙ e, inl same)
-    go true e more (inr there) = ((more there).0, inr (more there).1)
-    go false e more there = ((more there).0, inr (more there).1)
 
 -- a node left pending was pending, and is enabled
 pub left_is : (t : RuleTable) (moves : List Moved) (s : State) (pending : List ℕ) (v : ℕ) → IsIn v (left t moves s pending) → IsTrue (not (is_mover_in moves v)) × IsTrue (is_some (rule_at t s v)) × IsIn v pending

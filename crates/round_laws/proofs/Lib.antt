@@ -1,17 +1,12 @@
-pub mod Turns
 pub mod Prelude
 pub mod Counting
 pub mod NewPairs
 pub mod HsuHuang
 pub mod JointTurns
-pub mod HighPairs
 pub mod ManneGuards
 pub mod Manne
 pub mod Compare
 pub mod Plays
-pub mod CompleteNetworks
-pub mod HsuHuangPlays
-pub mod HsuHuangSchedule
 pub mod HsuHuangReached
 pub mod MannePlays
 pub mod ManneSchedule

@@ -1,511 +1,365 @@
 -- By Manne's rules n nodes have at most n + 2 * (n / 2) rounds, however many nodes move at once.
 --
--- A first round ends with plain flags: only nodes of a pair are flagged, and that stays. A second round ends
--- with upward pointers: each that is not answered is at a higher node. From then on a null node with a suitor
--- moves into a pair, so if one is pending the round ends with a new pair.
+-- A pointer has hope if its target is above its node and not flagged. A first round ends with honest flags: only
+-- married nodes are flagged, and that stays. Then a new pair takes at most four rounds: one until all married
+-- nodes are flagged, one until each unanswered pointer has hope, one until some pointer does, and one until a
+-- pair is made. If some pointer has hope, the highest node that points leads to a null node, which marries next.
+-- If no pair is left to come, the first of these four rounds may still come, and the second if a node is
+-- unmarried.
 --
--- Then a new pair takes at most four rounds: one until all nodes of pairs are flagged, one until no node
--- points at a node of a pair in vain, one until some null node has a suitor, one until it is in a pair. If no
--- pair is left to come, the first of these rounds may still come, and the second if a node is unmarried.
---
--- If no node is in a pair at the beginning, the second round ends with a null node that has a suitor: once a
--- node points up, that pointer stays, and it leads to such a node; if none does, the lower end of an edge to
--- a suitor or to a null node is enabled until it moves, and then it points up. So the third round ends with a
--- new pair. If some nodes are in a pair, there are two fewer to come.
-use Rattle.round_laws.proofs.Prelude.{◌≡◌, ◌≢◌, ℕ, suc, ◌+◌, ◌-◌, ◌*◌, ◌/◌, ◌<◌, ◌≤◌, true, false, not, List, [], ◌∷◌, None, Some, nat_eq, IsTrue, refl, sym, ap, ◌∙◌, subst, inl, inr, ◌⊎◌, ⊎_elim, arith, cases_lt, cases_Bool, or_left, eq-eqb, true≢false, false_from_ne_true, none-some, Act, Update, Marry, Seduce, Abandon, Moved, Item, linked, names, node_count, State, IsState, pointer, flag, enabled_names, manne, IsStep, Entry, Moment, Run, pointer_linked, suitor_linked, linked_back, linked_apart, linked_present, present_range, IsUndisturbed, manne_asks, manne_inside, manne_table, IsIn, count_all, in_names, names_without_repeats, IsDone, step_done, stance, is_paired, paired_is, married_is, is_mover_in, count_less_two, count_one, count_two, Turn, among_from, IsAmong, is_single, singles, single_free, single_waiting, unmarried_nodes, rounds_in}
-use Rattle.machine_laws.proofs.NodeMoves.{Deed, idles, updates, marries, seduces, abandons}
-use Rattle.round_laws.proofs.Counting.{left, still_pending, in_enabled, some_or_none, Owed, IsRoundBudget, rounds_within, rounds_settle}
-use Rattle.round_laws.proofs.NewPairs.{paired_at, pair_falls, singles_fall, singles_of, singles_are, singles_few, single_from, single_is}
-use Rattle.round_laws.proofs.JointTurns.{JointTurn, turn_at, IsPaired, IsPlain, IsRight, IsUpward, IsAlone, null_alone, Weds, IsCourted, PointsUp, IsLow, off, up_holds, plain_kept, upward_kept, was_flagged, was_down, was_left, was_unset, right_kept, courted_step, null_step, low_step, up_is_courted, descend}
-use Rattle.round_laws.proofs.ManneGuards.{wrong_enabled, marry_enabled, low_enabled, abandon_enabled, abandon_is, seduce_is, flag_right, joint_turn}
-
--- ---- numbers
+-- If no node is married at the beginning, honest flags are right, and the first two of the four rounds are not
+-- needed. If some nodes are married, there are two fewer to come.
+use Rattle.round_laws.proofs.Prelude.{◌≡◌, ℕ, zero, suc, ◌+◌, ◌-◌, ◌*◌, ◌/◌, ◌<◌, ◌≤◌, true, false, not, List, [], None, Some, IsTrue, refl, sym, ap, ◌∙◌, subst, inl, inr, ◌⊎◌, ⊎_elim, arith, cases_lt, cases_Bool, true≢false, false_from_ne_true, none-some, Act, Update, Marry, Seduce, Abandon, Moved, Item, linked, names, node_count, State, IsState, pointer, flag, married, has_suitor, enabled_names, manne, IsStep, Entry, Moment, Run, option_cases, pointer_linked, suitor_linked, linked_apart, linked_present, present_range, suitor_some, null_unmarried, unanswered_unmarried, married_from, IsUndisturbed, manne_asks, manne_inside, manne_table, IsIn, in_names, names_without_repeats, count_all, count_one, IsDone, step_done, is_mover_in, unmarried_nodes, rounds_in}
+use Rattle.round_laws.proofs.Counting.{left, still_pending, in_enabled, silent_or_not, IsRoundBudget, rounds_within}
+use Rattle.round_laws.proofs.NewPairs.{unmarried_few, two_unmarried, one_unmarried, married_or_not, married_stays, pair_or_not}
+use Rattle.round_laws.proofs.JointTurns.{IsJoint, IsHonest, IsRight, IsSorted, honest_then, raised_was, hope_stays, unset_was, right_then, idle_was, hope_begins, sorted_then, courted_stays}
+use Rattle.round_laws.proofs.ManneGuards.{wrong_enabled, marry_enabled, seduce_enabled, abandon_enabled, abandon_is, seduce_is, joint_turn}
 
 -- u + 2 * (u / 2): four rounds for each pair that u unmarried nodes can form, and one for a node that is left
 abbrev cost : ℕ → ℕ
 cost u = u + 2 * (u / 2)
 
-cost_le : (a b : ℕ) → a ≤ b → cost a ≤ cost b
-cost_le a b le = omega (arith, le)
+-- ---- what is due
 
-cost_pair : (a b : ℕ) → a + 2 ≤ b → cost a + 4 ≤ cost b
-cost_pair a b le = omega (arith, le)
+abbrev Honest : State → Type 0
+Honest s = IsHonest (married s) (flag s)
 
-cost_two : (u : ℕ) → 2 ≤ u → 4 ≤ cost u
-cost_two u le = omega (arith, le)
+abbrev Right : State → Type 0
+Right s = IsRight (married s) (flag s)
 
-cost_one : (u : ℕ) → 1 ≤ u → 1 ≤ cost u
-cost_one u le = omega (arith, le)
-
-before_one : (b : ℕ) → 1 ≤ b → b ≡ suc (b - 1)
-before_one b one = omega (arith, one)
-
--- ---- what is owed
-
--- each node that points down and is not answered is pending
-abbrev DownsWait : State → List ℕ → Type 0
-DownsWait s pending = (v w : ℕ) → pointer s v ≡ Some w → pointer s w ≢ Some v → w ≤ v → IsIn v pending
-
--- a node is pending that is null, and has a neighbour above it that is null or points at it
-abbrev LowWaits : State → List ℕ → Type 0
-LowWaits s pending = (w : ℕ) × ((v : ℕ) × IsTrue (linked s.network w v) × IsLow (pointer s) w v × IsIn w pending)
+abbrev Sorted : State → List ℕ → Type 0
+Sorted s pending = IsSorted (pointer s) (married s) (flag s) pending
 
 -- in the midst of a round, or at its end if no node is pending
-data Mid (s : State) (pending : List ℕ) (b : ℕ) : Type 0 where
-  -- no node is in a pair, and each flagged node is pending
-  raw_alone : IsAlone (pointer s) → ((v : ℕ) → flag s v ≡ true → IsIn v pending) → cost (singles_of s) ≤ b → 1 ≤ b → Mid s pending b
-  -- each node that is flagged and in no pair is pending
-  raw_flags : ((v : ℕ) → flag s v ≡ true → (IsPaired (pointer s) v → ⊥) → IsIn v pending) → cost (singles_of s) + 3 ≤ b → Mid s pending b
-  -- no node is in a pair, and some node points up or will
-  plain_alone : IsPlain (pointer s) (flag s) → IsAlone (pointer s) → DownsWait s pending → PointsUp (pointer s) ⊎ LowWaits s pending → cost (singles_of s) ≤ b + 1 → 1 ≤ b → Mid s pending b
-  plain_flags : IsPlain (pointer s) (flag s) → DownsWait s pending → cost (singles_of s) + 2 ≤ b → Mid s pending b
-  -- nothing but plain flags and upward pointers is known
-  anyhow : IsPlain (pointer s) (flag s) → IsUpward (pointer s) → cost (singles_of s) + 2 ≤ b → Mid s pending b
-  -- each node of a pair that is not flagged is pending
-  unset_flags : IsPlain (pointer s) (flag s) → IsUpward (pointer s) → ((v : ℕ) → IsPaired (pointer s) v → flag s v ≡ false → IsIn v pending) → cost (singles_of s) + 1 ≤ b → Mid s pending b
-  -- each node that points at a node of a pair, not its partner, is pending
-  left_behind : IsPlain (pointer s) (flag s) → IsUpward (pointer s) → IsRight (pointer s) (flag s) → ((v w : ℕ) → pointer s v ≡ Some w → pointer s w ≢ Some v → IsPaired (pointer s) w → IsIn v pending) → cost (singles_of s) ≤ b → 1 ≤ b → Mid s pending b
-  -- two linked nodes are null, and the lower one is pending
-  facing : IsPlain (pointer s) (flag s) → IsUpward (pointer s) → (a c : ℕ) → IsTrue (linked s.network a c) → a < c → pointer s a ≡ None → pointer s c ≡ None → IsIn a pending → cost (singles_of s) ≤ b + 1 → 1 ≤ b → Mid s pending b
-  -- u is a suitor of w, which is null
-  courted : IsPlain (pointer s) (flag s) → IsUpward (pointer s) → (w u : ℕ) → pointer s w ≡ None → pointer s u ≡ Some w → cost (singles_of s) ≤ b + 1 → 1 ≤ b → Mid s pending b
-  -- and w is pending
-  promised : IsPlain (pointer s) (flag s) → IsUpward (pointer s) → (w u : ℕ) → pointer s w ≡ None → pointer s u ≡ Some w → IsIn w pending → cost (singles_of s) ≤ b + 2 → Mid s pending b
+data Due (s : State) (pending : List ℕ) (b : ℕ) : Type 0 where
+  -- each node that is flagged and not married is pending
+  raised : ((v : ℕ) → flag s v ≡ true → married s v ≡ false → IsIn v pending) → ((v : ℕ) → married s v ≡ false) ⊎ (cost (unmarried_nodes s) + 2 ≤ b) → cost (unmarried_nodes s) ≤ b → 1 ≤ b → Due s pending b
+  -- nothing but honest flags is known
+  wed : Honest s → cost (unmarried_nodes s) + 2 ≤ b → Due s pending b
+  -- each married node that is not flagged is pending
+  unset : Honest s → ((v : ℕ) → married s v ≡ true → flag s v ≡ false → IsIn v pending) → cost (unmarried_nodes s) + 1 ≤ b → Due s pending b
+  -- pointers without hope are given up
+  hopeless : Right s → Sorted s pending → cost (unmarried_nodes s) ≤ b → 1 ≤ b → Due s pending b
+  -- v is null and pending, and w above it is null or its suitor
+  facing : (v w : ℕ) → Right s → Sorted s pending → IsTrue (linked s.network v w) → v < w → pointer s v ≡ None → (pointer s w ≡ None) ⊎ (pointer s w ≡ Some v) → IsIn v pending → cost (unmarried_nodes s) ≤ b + 1 → Due s pending b
+  -- a pointer has hope
+  hoping : (v w : ℕ) → Right s → Sorted s pending → pointer s v ≡ Some w → married s v ≡ false → v < w → flag s w ≡ false → cost (unmarried_nodes s) ≤ b + 1 → Due s pending b
+  -- u is a suitor of v, which is null and pending
+  promised : (v u : ℕ) → Right s → Sorted s [] → pointer s v ≡ None → pointer s u ≡ Some v → IsIn v pending → cost (unmarried_nodes s) ≤ b + 2 → Due s pending b
 
-data Owes (s : State) (pending : List ℕ) (b : ℕ) : Type 0 where
-  -- no node is enabled
-  quiet : ((v : ℕ) (act : Act) → manne.guard s v act ≡ false) → Owes s pending b
-  mid : Mid s pending b → Owes s pending b
+-- the suitor of a null node is not married
+suitor_single : (s : State) (v u : ℕ) → pointer s v ≡ None → pointer s u ≡ Some v → married s u ≡ false
+suitor_single s v u null suits = unanswered_unmarried s u v suits (λ back. none-some u (sym null ∙ back))
+
+-- a null node is enabled if a node above it is null or its suitor
+facing_enabled : (s : State) → IsState s → Right s → (v w : ℕ) → IsTrue (linked s.network v w) → v < w → pointer s v ≡ None → (pointer s w ≡ None) ⊎ (pointer s w ≡ Some v) → (act : Act) × IsTrue (manne.guard s v act)
+facing_enabled s good right v w near up null (inr suits) = (Marry, marry_enabled s good v w (right v) null suits)
+facing_enabled s good right v w near up null (inl free) =
+    ⊎_elim
+    (λ suited. let suitor = suitor_some s v suited in (Marry, marry_enabled s good v suitor.0 (right v) null suitor.1))
+    (λ alone. (Seduce, seduce_enabled s good v w (right v) near up null alone free (right w ∙ null_unmarried s w free)))
+    (cases_Bool (has_suitor s v))
+
+-- so is an unmarried node that points without hope
+hopeless_enabled : (s : State) → IsState s → Right s → (v w : ℕ) → pointer s v ≡ Some w → married s v ≡ false → (flag s w ≡ true) ⊎ (w ≤ v) → IsTrue (manne.guard s v Abandon)
+hopeless_enabled s good right v w at single lost =
+    abandon_enabled s v w (right v) at (λ back. true≢false (sym (married_from s v w good at back) ∙ single)) lost
 
 -- ---- a step
 
 record Joint (s s' : State) (moves : List Moved) : Type 0 where
-  before : IsState s
   after : IsState s'
   network : s'.network ≡ s.network
-  turns : (v : ℕ) → JointTurn (pointer s) (pointer s') (flag s) (flag s') (is_mover_in moves) v
+  joint : IsJoint (pointer s) (pointer s') (married s) (married s') (flag s) (flag s') (is_mover_in moves)
+  pairs : (unmarried_nodes s' + 2 ≤ unmarried_nodes s) ⊎ (((v : ℕ) → married s' v ≡ married s v) × (unmarried_nodes s' ≡ unmarried_nodes s))
 
-joint_of : (s s' : State) (moves : List Moved) → IsState s → IsDone manne s s' moves → Joint s s' moves
-joint_of s s' moves good done = record {
-  before = good;
+joint_of : (s s' : State) (items : List Item) (moves : List Moved) → IsState s → IsStep manne s items moves s' → Joint s s' moves
+joint_of s s' items moves good step = record {
   after = done.is_state;
   network = done.network;
-  turns = λ v. joint_turn s s' moves v good (done.deeds v);
+  joint = record {
+    turns = λ v. joint_turn s s' moves v good (done.deeds v);
+    weds = λ v w at back. married_from s' v w done.is_state at back;
+    stays = married_stays manne manne_asks s s' moves good done;
+  };
+  pairs = pair_or_not manne manne_asks s s' moves good done;
 }
-
--- a step has a mover, with a guard that holds
-someone : (moves : List Moved) → moves ≢ [] → (x : ℕ) × IsTrue (is_mover_in moves x)
-someone [] some = absurd (some refl)
-someone (m ∷ moves) some = (m.node, or_left (nat_eq m.node m.node) (is_mover_in moves m.node) (eq-eqb m.node m.node refl))
-
-mover_guard : (s s' : State) (moves : List Moved) (x : ℕ) → IsTrue (is_mover_in moves x) → Deed manne s s' moves x → (act : Act) × IsTrue (manne.guard s x act)
-mover_guard s s' moves x moved (idles none e f) = absurd (true≢false (sym moved ∙ none))
-mover_guard s s' moves x moved (updates goes guard e f) = (Update, guard)
-mover_guard s s' moves x moved (marries w goes guard allowed e f) = (Marry, guard)
-mover_guard s s' moves x moved (seduces w goes guard allowed e f) = (Seduce, guard)
-mover_guard s s' moves x moved (abandons goes guard e f) = (Abandon, guard)
-
--- a pointer is at a name
-target_within : (s : State) → IsState s → (v w : ℕ) → pointer s v ≡ Some w → w ≤ s.network.size
-target_within s good v w at = (present_range s.network w (linked_present s.network w v good.is_network (suitor_linked s w v good at))).1
-
-module _ (s s' : State) (moves : List Moved) (it : Joint s s' moves) where
-  turns_at : (v : ℕ) → Turn (pointer s) (pointer s') v
-  turns_at v = turn_at (pointer s) (pointer s') (flag s) (flag s') (is_mover_in moves) it.turns v
-
-  among : IsAmong (pointer s') (names s.network)
-  among = subst (λ net. IsAmong (pointer s') (names net)) it.network (among_from s' it.after)
-
-  fall : cost (singles_of s') ≤ cost (singles_of s)
-  fall =
-      let same = ap (λ net. singles (pointer s') (names net)) it.network in
-      let le = singles_fall (pointer s) (pointer s') (names s.network) turns_at in
-      cost_le (singles_of s') (singles_of s) (omega (arith, same, le))
-
-  less_two : (v : ℕ) → (IsPaired (pointer s) v → ⊥) → IsPaired (pointer s') v → singles_of s' + 2 ≤ singles_of s
-  less_two v alone now =
-      let same = ap (λ net. singles (pointer s') (names net)) it.network in
-      let le = pair_falls (pointer s) (pointer s') (names s.network) turns_at among v alone now in
-      omega (arith, same, le)
-
-  weds : (v : ℕ) → pointer s v ≡ None → IsPaired (pointer s') v → cost (singles_of s') + 4 ≤ cost (singles_of s)
-  weds v null now = cost_pair (singles_of s') (singles_of s) (less_two v (null_alone (pointer s) v null) now)
-
-  -- a pair is new, or none is
-  pair_or_not : (cost (singles_of s') + 4 ≤ cost (singles_of s)) ⊎ ((v : ℕ) → IsPaired (pointer s') v → IsPaired (pointer s) v)
-  pair_or_not =
-      ⊎_elim
-      (λ (few : singles_of s < singles_of s' + 2). inr (λ v now. ⊎_elim
-      (λ yes. yes)
-      (λ no. let two = less_two v (λ h. true≢false (sym h ∙ no)) now in absurd (omega (arith, two, few)))
-      (cases_Bool (is_paired (stance (pointer s) v)))))
-      (λ (enough : singles_of s' + 2 ≤ singles_of s). inl (cost_pair (singles_of s') (singles_of s) enough))
-      (cases_lt (singles_of s) (singles_of s' + 2))
-
-  plain_then : IsPlain (pointer s) (flag s) → IsPlain (pointer s') (flag s')
-  plain_then plain = plain_kept (pointer s) (pointer s') (flag s) (flag s') (is_mover_in moves) it.turns plain
-
-  upward_then : IsPlain (pointer s) (flag s) → IsUpward (pointer s) → IsUpward (pointer s')
-  upward_then plain up = upward_kept (pointer s) (pointer s') (flag s) (flag s') (is_mover_in moves) it.turns plain up
-
-  raw_then : (pending : List ℕ) → ((v : ℕ) → flag s v ≡ true → (IsPaired (pointer s) v → ⊥) → IsIn v pending) → (v : ℕ) → flag s' v ≡ true → (IsPaired (pointer s') v → ⊥) → IsIn v (left manne moves s' pending)
-  raw_then pending wait v on alone =
-      let was = was_flagged (pointer s) (pointer s') (flag s) (flag s') (is_mover_in moves) it.turns v on alone in
-      still_pending manne moves s' v pending Update (wait v was.1 was.2) was.0
-      (wrong_enabled s' it.after v (on ∙ sym (ap not (false_from_ne_true (is_paired (stance (pointer s') v)) alone))))
-
-  downs_then : (pending : List ℕ) → IsPlain (pointer s) (flag s) → DownsWait s pending → DownsWait s' (left manne moves s' pending)
-  downs_then pending plain wait v w now apart down =
-      let was = was_down (pointer s) (pointer s') (flag s) (flag s') (is_mover_in moves) it.turns plain v w now apart down in
-      still_pending manne moves s' v pending Abandon (wait v w was.1 was.2 down) was.0
-      (abandon_enabled s' it.after (plain_then plain) v w now apart (inr down))
-
-  low_then : (pending : List ℕ) → IsPlain (pointer s) (flag s) → IsAlone (pointer s) → IsAlone (pointer s') → PointsUp (pointer s) ⊎ LowWaits s pending → PointsUp (pointer s') ⊎ LowWaits s' (left manne moves s' pending)
-  low_then pending plain alone then (inl (x, (y, at, above))) =
-      inl (x, (y, up_holds (pointer s) (pointer s') (flag s) (flag s') (is_mover_in moves) it.turns x y at above (off (pointer s) (pointer s') (flag s) (flag s') (is_mover_in moves) it.turns plain y (alone y)), above))
-  low_then pending plain alone then (inr (w, (v, near, (below, null, high), there))) =
-      ⊎_elim
-      (λ up. inl up)
-      (λ stay.
-      let near' = subst (λ net. IsTrue (linked net w v)) (sym it.network) near in
-      let act = low_enabled s' it.after (plain_then plain) w v near' below stay.1 stay.2 in
-      inr (w, (v, near', (below, stay.1, stay.2), still_pending manne moves s' w pending act.0 there stay.0 act.1)))
-      (low_step (pointer s) (pointer s') (flag s) (flag s') (is_mover_in moves) it.turns plain then w v null high)
-
-  -- some null node is in a pair then, or has a suitor
-  busy : (pending : List ℕ) (b : ℕ) → IsPlain (pointer s) (flag s) → IsUpward (pointer s) → cost (singles_of s) ≤ b + 1 → 1 ≤ b → Weds (pointer s) (pointer s') ⊎ IsCourted (pointer s') → Mid s' pending b
-  busy pending b plain up le one (inl (y, null, now)) =
-      let less = weds y null now in anyhow (plain_then plain) (upward_then plain up) (omega (arith, less, le))
-  busy pending b plain up le one (inr (w, (u, null, suits))) =
-      courted (plain_then plain) (upward_then plain up) w u null suits (omega (arith, fall, le)) one
-
-  null_then : IsPlain (pointer s) (flag s) → IsUpward (pointer s) → (v : ℕ) → pointer s v ≡ None → ((is_mover_in moves v ≡ false) × (pointer s' v ≡ None)) ⊎ (Weds (pointer s) (pointer s') ⊎ IsCourted (pointer s'))
-  null_then plain up v null = null_step (pointer s) (pointer s') (flag s) (flag s') (is_mover_in moves) it.turns plain up s'.network.size (target_within s' it.after) v null
-
-  courted_then : IsPlain (pointer s) (flag s) → IsUpward (pointer s) → (w u : ℕ) → pointer s w ≡ None → pointer s u ≡ Some w → IsPaired (pointer s') w ⊎ ((is_mover_in moves w ≡ false) × (pointer s' w ≡ None) × (pointer s' u ≡ Some w))
-  courted_then plain up w u null suits = courted_step (pointer s) (pointer s') (flag s) (flag s') (is_mover_in moves) it.turns plain up w u null suits
-
-  mid_step : (pending : List ℕ) (b : ℕ) → Mid s pending b → Mid s' (left manne moves s' pending) b
-  mid_step pending b (raw_alone alone wait le one) =
-      ⊎_elim
-      (λ less. raw_flags (raw_then pending (λ v on unpaired. wait v on)) (omega (arith, less, le)))
-      (λ old. raw_alone (λ v h. alone v (old v h)) (λ v on. raw_then pending (λ v on unpaired. wait v on) v on (λ h. alone v (old v h))) (omega (arith, fall, le)) one)
-      pair_or_not
-  mid_step pending b (raw_flags wait le) = raw_flags (raw_then pending wait) (omega (arith, fall, le))
-  mid_step pending b (plain_alone plain alone wait how le one) =
-      ⊎_elim
-      (λ less. plain_flags (plain_then plain) (downs_then pending plain wait) (omega (arith, less, le)))
-      (λ old.
-      let then : IsAlone (pointer s') = λ v h. alone v (old v h) in
-      plain_alone (plain_then plain) then (downs_then pending plain wait) (low_then pending plain alone then how) (omega (arith, fall, le)) one)
-      pair_or_not
-  mid_step pending b (plain_flags plain wait le) = plain_flags (plain_then plain) (downs_then pending plain wait) (omega (arith, fall, le))
-  mid_step pending b (anyhow plain up le) = anyhow (plain_then plain) (upward_then plain up) (omega (arith, fall, le))
-  mid_step pending b (unset_flags plain up wait le) =
-      ⊎_elim
-      (λ less. anyhow (plain_then plain) (upward_then plain up) (omega (arith, less, le)))
-      (λ old. unset_flags (plain_then plain) (upward_then plain up)
-      (λ v wed none.
-      let was = was_unset (pointer s) (pointer s') (flag s) (flag s') (is_mover_in moves) it.turns old v wed none in
-      still_pending manne moves s' v pending Update (wait v was.1 was.2) was.0 (wrong_enabled s' it.after v (none ∙ sym (ap not wed))))
-      (omega (arith, fall, le)))
-      pair_or_not
-  mid_step pending b (left_behind plain up right wait le one) =
-      ⊎_elim
-      (λ less. anyhow (plain_then plain) (upward_then plain up) (omega (arith, less, le)))
-      (λ old.
-      let right' = right_kept (pointer s) (pointer s') (flag s) (flag s') (is_mover_in moves) it.turns old right in
-      left_behind (plain_then plain) (upward_then plain up) right'
-      (λ v w now apart wed.
-      let was = was_left (pointer s) (pointer s') (flag s) (flag s') (is_mover_in moves) it.turns plain old v w now apart wed in
-      still_pending manne moves s' v pending Abandon (wait v w was.1 was.2 was.3) was.0 (abandon_enabled s' it.after (plain_then plain) v w now apart (inl (right' w wed))))
-      (omega (arith, fall, le)) one)
-      pair_or_not
-  mid_step pending b (facing plain up a c near below null other there le one) =
-      ⊎_elim
-      (λ still. ⊎_elim
-      (λ also.
-      let near' = subst (λ net. IsTrue (linked net a c)) (sym it.network) near in
-      let act = low_enabled s' it.after (plain_then plain) a c near' below still.1 (inl also.1) in
-      facing (plain_then plain) (upward_then plain up) a c near' below still.1 also.1
-      (still_pending manne moves s' a pending act.0 there still.0 act.1) (omega (arith, fall, le)) one)
-      (λ more. busy (left manne moves s' pending) b plain up le one more)
-      (null_then plain up c other))
-      (λ more. busy (left manne moves s' pending) b plain up le one more)
-      (null_then plain up a null)
-  mid_step pending b (courted plain up w u null suits le one) =
-      ⊎_elim
-      (λ wed. let less = weds w null wed in anyhow (plain_then plain) (upward_then plain up) (omega (arith, less, le)))
-      (λ stay. courted (plain_then plain) (upward_then plain up) w u stay.1 stay.2 (omega (arith, fall, le)) one)
-      (courted_then plain up w u null suits)
-  mid_step pending b (promised plain up w u null suits there le) =
-      ⊎_elim
-      (λ wed. let less = weds w null wed in anyhow (plain_then plain) (upward_then plain up) (omega (arith, less, le)))
-      (λ stay. promised (plain_then plain) (upward_then plain up) w u stay.1 stay.2
-      (still_pending manne moves s' w pending Marry there stay.0 (marry_enabled s' it.after (plain_then plain) w u stay.1 stay.2))
-      (omega (arith, fall, le)))
-      (courted_then plain up w u null suits)
-
--- ---- rounds begin
-
-enabled_in : (s : State) → IsState s → (v : ℕ) (act : Act) → IsTrue (manne.guard s v act) → IsIn v (enabled_names manne s)
-enabled_in s good v act guard = in_enabled manne manne_inside s good v act guard
-
--- a node with this guard, or none has it
-some_or_not : (s : State) → IsState s → (act : Act) → ((v : ℕ) × IsTrue (manne.guard s v act)) ⊎ ((v : ℕ) → manne.guard s v act ≡ false)
-some_or_not s good act = some_or_none manne manne_inside s good act
-
--- no node has any
-no_guard : (s : State) → ((v : ℕ) → manne.guard s v Update ≡ false) → ((v : ℕ) → manne.guard s v Marry ≡ false) → ((v : ℕ) → manne.guard s v Seduce ≡ false) → ((v : ℕ) → manne.guard s v Abandon ≡ false) → (v : ℕ) (act : Act) → manne.guard s v act ≡ false
-no_guard s a b c d v Update = a v
-no_guard s a b c d v Marry = b v
-no_guard s a b c d v Seduce = c v
-no_guard s a b c d v Abandon = d v
-
-one_single : (s : State) → IsState s → (v : ℕ) (act : Act) → IsTrue (manne.guard s v act) → IsTrue (is_single (pointer s) v) → 1 ≤ singles_of s
-one_single s good v act guard single =
-    count_one (is_single (pointer s)) v (names s.network) (names_without_repeats s.network) (in_names s.network v (manne_inside.has s v act good guard)) single
-
-two_singles : (s : State) → IsState s → (a c : ℕ) → IsTrue (linked s.network a c) → IsTrue (is_single (pointer s) a) → IsTrue (is_single (pointer s) c) → 4 ≤ cost (singles_of s)
-two_singles s good a c near single also =
-    cost_two (singles_of s)
-    (count_two (is_single (pointer s)) a c (names s.network) (names_without_repeats s.network)
-    (in_names s.network a (linked_present s.network a c good.is_network near))
-    (in_names s.network c (linked_present s.network c a good.is_network (linked_back s.network c a ∙ near)))
-    single also (linked_apart s.network a c good.is_network near))
-
--- flags are plain and right, pointers are upward, and no node points at a node of a pair in vain
-begin_settled : (s : State) → IsState s → (b : ℕ) → IsPlain (pointer s) (flag s) → IsUpward (pointer s) → IsRight (pointer s) (flag s) → ((v w : ℕ) → pointer s v ≡ Some w → pointer s w ≢ Some v → IsPaired (pointer s) w → ⊥) → cost (singles_of s) ≤ b + 1 → Owes s (enabled_names manne s) b
-begin_settled s good b plain up right nobody le = by_marry (some_or_not s good Marry)
-  where
-    no_update : (v : ℕ) → manne.guard s v Update ≡ false
-    no_update v = false_from_ne_true (manne.guard s v Update) (λ guard. (manne_asks.update s v guard).1 (flag_right s good plain right v))
-
-    no_abandon : (v : ℕ) → manne.guard s v Abandon ≡ false
-    no_abandon v = false_from_ne_true (manne.guard s v Abandon) (λ guard.
-        let aim = abandon_is s v guard in
-        ⊎_elim
-        (λ on. nobody v aim.0 aim.1 aim.2 (plain aim.0 on))
-        (λ down. let above = up v aim.0 aim.1 aim.2 in absurd (omega (arith, above, down)))
-        aim.3)
-
-    by_seduce : ((v : ℕ) → manne.guard s v Marry ≡ false) → ((v : ℕ) × IsTrue (manne.guard s v Seduce)) ⊎ ((v : ℕ) → manne.guard s v Seduce ≡ false) → Owes s (enabled_names manne s) b
-    by_seduce no_marry (inl (a, guard)) =
-        let aim = seduce_is s a guard in
-        let two = two_singles s good a aim.1.0 aim.1.1 (single_free (pointer s) a aim.0) (single_free (pointer s) aim.1.0 aim.1.2) in
-        mid (facing plain up a aim.1.0 aim.1.1 aim.1.3 aim.0 aim.1.2 (enabled_in s good a Seduce guard) le (omega (arith, two, le)))
-    by_seduce no_marry (inr no_seduce) = quiet (no_guard s no_update no_marry no_seduce no_abandon)
-
-    by_marry : ((v : ℕ) × IsTrue (manne.guard s v Marry)) ⊎ ((v : ℕ) → manne.guard s v Marry ≡ false) → Owes s (enabled_names manne s) b
-    by_marry (inl (w, guard)) =
-        let asks = manne_asks.marry s w guard in
-        mid (promised plain up w asks.1.0 asks.0 asks.1.1 (enabled_in s good w Marry guard) (omega (arith, le)))
-    by_marry (inr no_marry) = by_seduce no_marry (some_or_not s good Seduce)
-
--- flags are plain and right, and pointers are upward
-begin_right : (s : State) → IsState s → (b : ℕ) → IsPlain (pointer s) (flag s) → IsUpward (pointer s) → IsRight (pointer s) (flag s) → cost (singles_of s) ≤ b → Owes s (enabled_names manne s) b
-begin_right s good b plain up right le =
-    ⊎_elim
-    (λ (none : b < 1). quiet (no_guard s
-    (λ v. false_from_ne_true (manne.guard s v Update) (λ guard. (manne_asks.update s v guard).1 (flag_right s good plain right v)))
-    (λ v. false_from_ne_true (manne.guard s v Marry) (λ guard. nobody none (one_single s good v Marry guard (single_free (pointer s) v (manne_asks.marry s v guard).0))))
-    (λ v. false_from_ne_true (manne.guard s v Seduce) (λ guard. nobody none (one_single s good v Seduce guard (single_free (pointer s) v (manne_asks.seduce s v guard).0))))
-    (λ v. false_from_ne_true (manne.guard s v Abandon) (λ guard. let asks = manne_asks.abandon s v guard in nobody none (one_single s good v Abandon guard (single_waiting (pointer s) v asks.0 asks.1 asks.2))))))
-    (λ (one : 1 ≤ b). mid (
-    left_behind plain up right
-    (λ v w at apart wed. enabled_in s good v Abandon (abandon_enabled s good plain v w at apart (inl (right w wed))))
-    le one
-    ))
-    (cases_lt b 1)
-  where
-    nobody : b < 1 → 1 ≤ singles_of s → ⊥
-    nobody none some = let one = cost_one (singles_of s) some in absurd (omega (arith, one, le, none))
-
--- flags are plain, and pointers are upward
-begin_upward : (s : State) → IsState s → (b : ℕ) → IsPlain (pointer s) (flag s) → IsUpward (pointer s) → cost (singles_of s) + 1 ≤ b → Mid s (enabled_names manne s) b
-begin_upward s good b plain up le =
-    unset_flags plain up (λ v wed none. enabled_in s good v Update (wrong_enabled s good v (none ∙ sym (ap not wed)))) le
-
-downs_begin : (s : State) → IsState s → IsPlain (pointer s) (flag s) → DownsWait s (enabled_names manne s)
-downs_begin s good plain v w at apart down = enabled_in s good v Abandon (abandon_enabled s good plain v w at apart (inr down))
-
--- flags are plain, and no node is in a pair
-begin_alone : (s : State) → IsState s → (b : ℕ) → IsPlain (pointer s) (flag s) → IsAlone (pointer s) → cost (singles_of s) ≤ b + 1 → Owes s (enabled_names manne s) b
-begin_alone s good b plain alone le = by_marry (some_or_not s good Marry)
-  where
-    starts : (a c : ℕ) → IsTrue (linked s.network a c) → PointsUp (pointer s) ⊎ LowWaits s (enabled_names manne s) → Owes s (enabled_names manne s) b
-    starts a c near how =
-        let two = two_singles s good a c near (single_from (pointer s) a (alone a)) (single_from (pointer s) c (alone c)) in
-        mid (plain_alone plain alone (downs_begin s good plain) how le (omega (arith, two, le)))
-
-    low : (w v : ℕ) → IsTrue (linked s.network w v) → IsLow (pointer s) w v → LowWaits s (enabled_names manne s)
-    low w v near is =
-        let act = low_enabled s good plain w v near is.0 is.1 is.2 in
-        (w, (v, near, is, enabled_in s good w act.0 act.1))
-
-    no_update : (v : ℕ) → manne.guard s v Update ≡ false
-    no_update v = false_from_ne_true (manne.guard s v Update) (λ guard. (manne_asks.update s v guard).1
-        (false_from_ne_true (flag s v) (λ on. alone v (plain v on)) ∙ sym (married_is s v good ∙ false_from_ne_true (is_paired (stance (pointer s) v)) (alone v))))
-
-    by_abandon : ((v : ℕ) → manne.guard s v Marry ≡ false) → ((v : ℕ) → manne.guard s v Seduce ≡ false) → ((v : ℕ) × IsTrue (manne.guard s v Abandon)) ⊎ ((v : ℕ) → manne.guard s v Abandon ≡ false) → Owes s (enabled_names manne s) b
-    by_abandon no_marry no_seduce (inl (v, guard)) =
-        let aim = abandon_is s v guard in
-        let near = pointer_linked s v aim.0 good aim.1 in
-        let other = linked_apart s.network v aim.0 good.is_network near in
-        ⊎_elim
-        (λ on. absurd (alone aim.0 (plain aim.0 on)))
-        (λ (down : aim.0 ≤ v). ⊎_elim
-        (λ up. starts v aim.0 near (inl up))
-        (λ found. starts v aim.0 near (inr (low found.0 found.1.0 (suitor_linked s found.0 found.1.0 good found.1.3) (found.1.1, found.1.2, inr found.1.3))))
-        (descend (pointer s) (λ x y at. linked_apart s.network x y good.is_network (pointer_linked s x y good at)) v v aim.0 (omega arith) (omega (arith, down, other)) aim.1))
-        aim.3
-    by_abandon no_marry no_seduce (inr no_abandon) = quiet (no_guard s no_update no_marry no_seduce no_abandon)
-
-    by_seduce : ((v : ℕ) → manne.guard s v Marry ≡ false) → ((v : ℕ) × IsTrue (manne.guard s v Seduce)) ⊎ ((v : ℕ) → manne.guard s v Seduce ≡ false) → Owes s (enabled_names manne s) b
-    by_seduce no_marry (inl (a, guard)) =
-        let aim = seduce_is s a guard in
-        starts a aim.1.0 aim.1.1 (inr (low a aim.1.0 aim.1.1 (aim.1.3, aim.0, inl aim.1.2)))
-    by_seduce no_marry (inr no_seduce) = by_abandon no_marry no_seduce (some_or_not s good Abandon)
-
-    by_marry : ((v : ℕ) × IsTrue (manne.guard s v Marry)) ⊎ ((v : ℕ) → manne.guard s v Marry ≡ false) → Owes s (enabled_names manne s) b
-    by_marry (inl (w, guard)) =
-        let asks = manne_asks.marry s w guard in
-        let near = suitor_linked s w asks.1.0 good asks.1.1 in
-        let other = linked_apart s.network w asks.1.0 good.is_network near in
-        ⊎_elim
-        (λ (above : w < asks.1.0). starts w asks.1.0 near (inr (low w asks.1.0 near (above, asks.0, inr asks.1.1))))
-        (λ (below : asks.1.0 ≤ w). starts w asks.1.0 near (inl (asks.1.0, (w, asks.1.1, omega (arith, below, other)))))
-        (cases_lt w asks.1.0)
-    by_marry (inr no_marry) = by_seduce no_marry (some_or_not s good Seduce)
-
--- from any state
-begin_raw : (s : State) → IsState s → (b : ℕ) → cost (singles_of s) + 3 ≤ b → Owes s (enabled_names manne s) b
-begin_raw s good b le =
-    mid (raw_flags (λ v on alone. enabled_in s good v Update (wrong_enabled s good v (on ∙ sym (ap not (false_from_ne_true (is_paired (stance (pointer s) v)) alone))))) le)
-
--- two nodes of a pair are not single
-pair_counts : (s : State) → IsState s → (v : ℕ) → IsPaired (pointer s) v → singles_of s + 2 ≤ node_count s.network
-pair_counts s good v paired =
-    let pair = paired_is (pointer s) v paired in
-    let among = among_from s good in
-    let ends = among.ends v pair.0 pair.1 in
-    let less = count_less_two (is_single (pointer s)) (λ x. true) v pair.0 (names s.network) among.once (λ x h. refl)
-    (record { there = ends.0; was = refl; gone = λ h. single_is (pointer s) v h paired })
-    (record { there = ends.1; was = refl; gone = λ h. single_is (pointer s) pair.0 h (paired_at (pointer s) pair.0 v pair.2 pair.1) })
-    (among.apart v pair.0 pair.1) in
-    let all = count_all (names s.network) in
-    omega (arith, less, all)
-
-begin : (s : State) → IsState s → (b : ℕ) → cost (node_count s.network) ≤ b → Owes s (enabled_names manne s) b
-begin s good b le =
-    ⊎_elim
-    (λ (few : node_count s.network < singles_of s + 2). by_alone (λ v paired. let two = pair_counts s good v paired in absurd (omega (arith, two, few))))
-    (λ (pair : singles_of s + 2 ≤ node_count s.network). let less = cost_pair (singles_of s) (node_count s.network) pair in begin_raw s good b (omega (arith, less, le)))
-    (cases_lt (node_count s.network) (singles_of s + 2))
-  where
-    nobody : b < 1 → (v : ℕ) (act : Act) → IsTrue (manne.guard s v act) → ⊥
-    nobody none v act guard =
-        let one = count_one (λ x. true) v (names s.network) (names_without_repeats s.network) (in_names s.network v (manne_inside.has s v act good guard)) refl in
-        let all = count_all (names s.network) in
-        let more = cost_one (node_count s.network) (omega (arith, one, all)) in
-        absurd (omega (arith, more, le, none))
-
-    by_alone : IsAlone (pointer s) → Owes s (enabled_names manne s) b
-    by_alone alone =
-        ⊎_elim
-        (λ (none : b < 1). quiet (λ v act. false_from_ne_true (manne.guard s v act) (nobody none v act)))
-        (λ (one : 1 ≤ b).
-        let most = cost_le (singles_of s) (node_count s.network) (singles_few s) in
-        mid (raw_alone alone (λ v on. enabled_in s good v Update (wrong_enabled s good v (on ∙ sym (ap not (false_from_ne_true (is_paired (stance (pointer s) v)) (alone v)))))) (omega (arith, most, le)) one))
-        (cases_lt b 1)
-
--- ---- rounds end
-
--- no unanswered pointer is down
-upward_from : (s : State) → DownsWait s [] → IsUpward (pointer s)
-upward_from s wait v w at apart =
-    ⊎_elim (λ (above : v < w). above) (λ (down : w ≤ v). absurd (wait v w at apart down)) (cases_lt v w)
-
--- a round is complete, and the next one begins
-complete : (s : State) → IsState s → (b : ℕ) → Mid s [] b → (rest : ℕ) × (b ≡ suc rest) × Owes s (enabled_names manne s) rest
-complete s good b (raw_alone alone wait le one) =
-    (b - 1, before_one b one, begin_alone s good (b - 1) (λ v on. absurd (wait v on)) alone (omega (arith, le, one)))
-complete s good b (raw_flags wait le) =
-    let plain : IsPlain (pointer s) (flag s) = λ v on. ⊎_elim (λ yes. yes) (λ no. absurd (wait v on (λ h. true≢false (sym h ∙ no)))) (cases_Bool (is_paired (stance (pointer s) v))) in
-    (b - 1, before_one b (omega (arith, le)), mid (plain_flags plain (downs_begin s good plain) (omega (arith, le))))
-complete s good b (plain_alone plain alone wait how le one) = (b - 1, before_one b one, by_how how)
-  where
-    by_how : PointsUp (pointer s) ⊎ LowWaits s [] → Owes s (enabled_names manne s) (b - 1)
-    by_how (inl points) =
-        let up = upward_from s wait in
-        let found = up_is_courted (pointer s) alone up s.network.size (target_within s good) points in
-        mid (promised plain up found.0 found.1.0 found.1.1 found.1.2 (enabled_in s good found.0 Marry (marry_enabled s good plain found.0 found.1.0 found.1.1 found.1.2)) (omega (arith, le, one)))
-    by_how (inr waits) = absurd waits.1.3
-complete s good b (plain_flags plain wait le) =
-    (b - 1, before_one b (omega (arith, le)), mid (begin_upward s good (b - 1) plain (upward_from s wait) (omega (arith, le))))
-complete s good b (anyhow plain up le) =
-    (b - 1, before_one b (omega (arith, le)), mid (begin_upward s good (b - 1) plain up (omega (arith, le))))
-complete s good b (unset_flags plain up wait le) =
-    let right : IsRight (pointer s) (flag s) = λ v wed. ⊎_elim (λ yes. yes) (λ no. absurd (wait v wed no)) (cases_Bool (flag s v)) in
-    (b - 1, before_one b (omega (arith, le)), begin_right s good (b - 1) plain up right (omega (arith, le)))
-complete s good b (left_behind plain up right wait le one) =
-    (b - 1, before_one b one, begin_settled s good (b - 1) plain up right (λ v w at apart wed. wait v w at apart wed) (omega (arith, le, one)))
-complete s good b (facing plain up a c near below null other there le one) = absurd there
-complete s good b (courted plain up w u null suits le one) =
-    (b - 1, before_one b one, mid (promised plain up w u null suits (enabled_in s good w Marry (marry_enabled s good plain w u null suits)) (omega (arith, le, one))))
-complete s good b (promised plain up w u null suits there le) = absurd there
-
-owed : (s : State) → IsState s → (pending : List ℕ) (b : ℕ) → Mid s pending b → Owed Owes manne s pending b
-owed s good [] b has = complete s good b has
-owed s good (v ∷ pending) b has = mid has
-
-owes_step : (s s' : State) (items : List Item) (moves : List Moved) → IsState s → IsStep manne s items moves s' → (pending : List ℕ) (b : ℕ) → Owes s pending b → Owed Owes manne s' (left manne moves s' pending) b
-owes_step s s' items moves good step pending b has = by_owes has
   where
     done : IsDone manne s s' moves
     done = step_done manne manne_inside s good items moves s' step
 
-    by_owes : Owes s pending b → Owed Owes manne s' (left manne moves s' pending) b
-    by_owes (quiet none) =
-        let mover = someone moves step.some in
-        let act = mover_guard s s' moves mover.0 mover.1 (done.deeds mover.0) in
-        absurd (true≢false (sym act.1 ∙ none mover.0 act.0))
-    by_owes (mid it) = owed s' done.is_state (left manne moves s' pending) b (mid_step s s' moves (joint_of s s' moves good done) pending b it)
+module _ (s s' : State) (moves : List Moved) (it : Joint s s' moves) where
+  still : (v : ℕ) (pending : List ℕ) (act : Act) → IsIn v pending → is_mover_in moves v ≡ false → IsTrue (manne.guard s' v act) → IsIn v (left manne moves s' pending)
+  still v pending act there idle guard = still_pending manne moves s' v pending act there idle guard
 
-manne_budget : IsRoundBudget manne Owes
-manne_budget = record {
-  turns = λ s pending b items moves s' good has step. owes_step s s' items moves good step pending b has;
+  -- a new pair
+  fresh : (pending : List ℕ) (b : ℕ) → Honest s → cost (unmarried_nodes s) ≤ b + 2 → unmarried_nodes s' + 2 ≤ unmarried_nodes s → Due s' pending b
+  fresh pending b honest le two = wed (honest_then it.joint honest) (omega (arith, two, le))
+
+  raised_keeps : (pending : List ℕ) → ((v : ℕ) → flag s v ≡ true → married s v ≡ false → IsIn v pending) → (v : ℕ) → flag s' v ≡ true → married s' v ≡ false → IsIn v (left manne moves s' pending)
+  raised_keeps pending wait v on single =
+      let was = raised_was it.joint v on single in
+      still v pending Update (wait v was.1 was.2) was.0 (wrong_enabled s' v (on ∙ sym (ap not single)))
+
+  module _ (same : (v : ℕ) → married s' v ≡ married s v) (count : unmarried_nodes s' ≡ unmarried_nodes s) (right : Right s) where
+    right' : Right s'
+    right' = right_then it.joint same right
+
+    sorted_keeps : (pending : List ℕ) → Sorted s pending → Sorted s' (left manne moves s' pending)
+    sorted_keeps pending sorted =
+        sorted_then it.joint same right pending (left manne moves s' pending)
+        (λ v w there idle now single lost. still v pending Abandon there idle (hopeless_enabled s' it.after right' v w now single lost)) sorted
+
+    facing_keeps : (pending : List ℕ) (b v w : ℕ) → Sorted s pending → IsTrue (linked s.network v w) → v < w → pointer s v ≡ None → (pointer s w ≡ None) ⊎ (pointer s w ≡ Some v) → IsIn v pending → cost (unmarried_nodes s) ≤ b + 1 → Due s' (left manne moves s' pending) b
+    facing_keeps pending b v w sorted near up null high there le =
+        ⊎_elim
+        (λ stays. ⊎_elim
+        (λ free. on stays (inl free))
+        (λ some. ⊎_elim
+        (λ kept. on stays (inr (kept ∙ was_suitor some.0 (sym kept ∙ some.1) high)))
+        (λ new. hoping w some.0 right' (sorted_keeps pending sorted) some.1 (same w ∙ null_unmarried s w new.0) new.1 new.2 (omega (arith, count, le)))
+        (hope_begins it.joint same right w some.0 some.1))
+        (option_cases (pointer s' w)))
+        (λ some. ⊎_elim
+        (λ kept. absurd (none-some some.0 (sym null ∙ sym kept ∙ some.1)))
+        (λ new. hoping v some.0 right' (sorted_keeps pending sorted) some.1 (same v ∙ null_unmarried s v null) new.1 new.2 (omega (arith, count, le)))
+        (hope_begins it.joint same right v some.0 some.1))
+        (option_cases (pointer s' v))
+      where
+        was_suitor : (z : ℕ) → pointer s w ≡ Some z → (pointer s w ≡ None) ⊎ (pointer s w ≡ Some v) → pointer s w ≡ Some v
+        was_suitor z at (inl free) = absurd (none-some z (sym free ∙ at))
+        was_suitor z at (inr suits) = suits
+
+        on : pointer s' v ≡ None → (pointer s' w ≡ None) ⊎ (pointer s' w ≡ Some v) → Due s' (left manne moves s' pending) b
+        on stays high' =
+            let near' = subst (λ net. IsTrue (linked net v w)) (sym it.network) near in
+            let act = facing_enabled s' it.after right' v w near' up stays high' in
+            facing v w right' (sorted_keeps pending sorted) near' up stays high'
+            (still v pending act.0 there (idle_was it.joint same right v (stays ∙ sym null)) act.1) (omega (arith, count, le))
+
+    hoping_keeps : (pending : List ℕ) (b v w : ℕ) → Sorted s pending → pointer s v ≡ Some w → married s v ≡ false → v < w → flag s w ≡ false → cost (unmarried_nodes s) ≤ b + 1 → Due s' (left manne moves s' pending) b
+    hoping_keeps pending b v w sorted at single up off le =
+        hoping v w right' (sorted_keeps pending sorted) (hope_stays it.joint v w at up off) (same v ∙ single) up (right' w ∙ same w ∙ sym (right w) ∙ off) (omega (arith, count, le))
+
+    promised_keeps : (pending : List ℕ) (b v u : ℕ) → Sorted s [] → pointer s v ≡ None → pointer s u ≡ Some v → IsIn v pending → cost (unmarried_nodes s) ≤ b + 2 → Due s' (left manne moves s' pending) b
+    promised_keeps pending b v u sorted null suits there le =
+        let stays = courted_stays it.joint same right sorted v u null suits in
+        let waits = ⊎_elim (λ hope. hope_stays it.joint u v suits hope.0 hope.1) (λ none. absurd none) (sorted u v suits (suitor_single s v u null suits)) in
+        promised v u right' (sorted_keeps [] sorted) stays waits
+        (still v pending Marry there (idle_was it.joint same right v (stays ∙ sym null)) (marry_enabled s' it.after v u (right' v) stays waits))
+        (omega (arith, count, le))
+
+  keeps : (pending : List ℕ) (b : ℕ) → Due s pending b → Due s' (left manne moves s' pending) b
+  keeps pending b (raised wait how le one) =
+      ⊎_elim
+      (λ two. raised (raised_keeps pending wait) (inr (omega (arith, two, le))) (omega (arith, two, le)) one)
+      (λ same. raised (raised_keeps pending wait)
+      (⊎_elim (λ alone. inl (λ v. same.0 v ∙ alone v)) (λ more. inr (omega (arith, same.1, more))) how)
+      (omega (arith, same.1, le)) one)
+      it.pairs
+  keeps pending b (wed honest le) =
+      wed (honest_then it.joint honest) (⊎_elim (λ two. omega (arith, two, le)) (λ same. omega (arith, same.1, le)) it.pairs)
+  keeps pending b (unset honest wait le) =
+      ⊎_elim
+      (fresh (left manne moves s' pending) b honest (omega (arith, le)))
+      (λ same. unset (honest_then it.joint honest)
+      (λ v wed off. let was = unset_was it.joint same.0 v wed off in still v pending Update (wait v was.1 was.2) was.0 (wrong_enabled s' v (off ∙ sym (ap not wed))))
+      (omega (arith, same.1, le)))
+      it.pairs
+  keeps pending b (hopeless right sorted le one) =
+      ⊎_elim
+      (fresh (left manne moves s' pending) b (λ v on. sym (right v) ∙ on) (omega (arith, le)))
+      (λ same. hopeless (right' same.0 same.1 right) (sorted_keeps same.0 same.1 right pending sorted) (omega (arith, same.1, le)) one)
+      it.pairs
+  keeps pending b (facing v w right sorted near up null high there le) =
+      ⊎_elim
+      (fresh (left manne moves s' pending) b (λ v on. sym (right v) ∙ on) (omega (arith, le)))
+      (λ same. facing_keeps same.0 same.1 right pending b v w sorted near up null high there le)
+      it.pairs
+  keeps pending b (hoping v w right sorted at single up off le) =
+      ⊎_elim
+      (fresh (left manne moves s' pending) b (λ v on. sym (right v) ∙ on) (omega (arith, le)))
+      (λ same. hoping_keeps same.0 same.1 right pending b v w sorted at single up off le)
+      it.pairs
+  keeps pending b (promised v u right sorted null suits there le) =
+      ⊎_elim
+      (fresh (left manne moves s' pending) b (λ v on. sym (right v) ∙ on) (omega (arith, le)))
+      (λ same. promised_keeps same.0 same.1 right pending b v u sorted null suits there le)
+      it.pairs
+
+-- ---- a round begins
+
+abbrev Next : State → ℕ → Type 0
+Next s b = (enabled_names manne s ≡ []) ⊎ Due s (enabled_names manne s) b
+
+enabled_in : (s : State) → IsState s → (v : ℕ) (act : Act) → IsTrue (manne.guard s v act) → IsIn v (enabled_names manne s)
+enabled_in s good v act guard = in_enabled manne manne_inside s good v act guard
+
+begin_raised : (s : State) → IsState s → (b : ℕ) → ((v : ℕ) → married s v ≡ false) ⊎ (cost (unmarried_nodes s) + 2 ≤ b) → cost (unmarried_nodes s) ≤ b → 1 ≤ b → Next s b
+begin_raised s good b how le one = inr (raised (λ v on single. enabled_in s good v Update (wrong_enabled s v (on ∙ sym (ap not single)))) how le one)
+
+begin_unset : (s : State) → IsState s → (b : ℕ) → Honest s → cost (unmarried_nodes s) + 1 ≤ b → Next s b
+begin_unset s good b honest le = inr (unset honest (λ v wed off. enabled_in s good v Update (wrong_enabled s v (off ∙ sym (ap not wed)))) le)
+
+-- all flags are right
+module _ (s : State) (good : IsState s) (right : Right s) where
+  no_update : (v : ℕ) → manne.guard s v Update ≡ false
+  no_update v = false_from_ne_true (manne.guard s v Update) (λ guard. (manne_asks.update s v guard).1 (right v))
+
+  begin_sorted : Sorted s (enabled_names manne s)
+  begin_sorted v w at single =
+      ⊎_elim
+      (λ (up : v < w). ⊎_elim (λ on. inr (by_lost (inl on))) (λ off. inl (up, off)) (cases_Bool (flag s w)))
+      (λ (down : w ≤ v). inr (by_lost (inr down)))
+      (cases_lt v w)
+    where
+      by_lost : (flag s w ≡ true) ⊎ (w ≤ v) → IsIn v (enabled_names manne s)
+      by_lost lost = enabled_in s good v Abandon (hopeless_enabled s good right v w at single lost)
+
+  begin_hopeless : (b : ℕ) → cost (unmarried_nodes s) ≤ b → Next s b
+  begin_hopeless b le =
+      ⊎_elim
+      (λ quiet. inl quiet)
+      (λ some. let one = one_unmarried manne manne_inside manne_asks s good some.0 some.1.0 (no_update some.0) some.1.1 in
+      inr (hopeless right begin_sorted le (omega (arith, one, le))))
+      (silent_or_not manne s)
+
+  -- and no unmarried node points at a married one
+  module _ (b : ℕ) (le : cost (unmarried_nodes s) ≤ b + 1) (sees : (v w : ℕ) → pointer s v ≡ Some w → married s v ≡ false → married s w ≡ false) where
+    from_hope : (v w : ℕ) → pointer s v ≡ Some w → married s v ≡ false → v < w → Due s (enabled_names manne s) b
+    from_hope v w at single up = hoping v w right begin_sorted at single up (right w ∙ sees v w at single) le
+
+    from_facing : (v w : ℕ) → IsTrue (linked s.network v w) → v < w → pointer s v ≡ None → (pointer s w ≡ None) ⊎ (pointer s w ≡ Some v) → Due s (enabled_names manne s) b
+    from_facing v w near up null high =
+        let act = facing_enabled s good right v w near up null high in
+        facing v w right begin_sorted near up null high (enabled_in s good v act.0 act.1) le
+
+    from_suitor : (v u : ℕ) → pointer s v ≡ None → pointer s u ≡ Some v → Due s (enabled_names manne s) b
+    from_suitor v u null suits =
+        ⊎_elim
+        (λ (up : v < u). from_facing v u (suitor_linked s v u good suits) up null (inr suits))
+        (λ (down : u ≤ v). from_hope u v suits (suitor_single s v u null suits) (let apart = linked_apart s.network u v good.is_network (pointer_linked s u v good suits) in omega (arith, down, apart)))
+        (cases_lt v u)
+
+    -- a pointer leads down to one that leads up, or to a null node
+    descend : (k v w : ℕ) → v ≤ k → pointer s v ≡ Some w → married s v ≡ false → Due s (enabled_names manne s) b
+    descend zero v w most at single =
+        let low = (present_range s.network v (linked_present s.network v w good.is_network (pointer_linked s v w good at))).0 in absurd (omega (arith, most, low))
+    descend (suc k) v w most at single =
+        let apart = linked_apart s.network v w good.is_network (pointer_linked s v w good at) in
+        ⊎_elim
+        (λ (up : v < w). from_hope v w at single up)
+        (λ (down : w ≤ v). ⊎_elim (λ null. from_suitor w v null at) (λ some. descend k w some.0 (omega (arith, most, down, apart)) some.1 (sees v w at single)) (option_cases (pointer s w)))
+        (cases_lt v w)
+
+    begin_facing : Next s b
+    begin_facing = ⊎_elim (λ quiet. inl quiet) (λ some. inr (by_act some.0 some.1.0 some.1.1)) (silent_or_not manne s)
+      where
+        by_act : (v : ℕ) (act : Act) → IsTrue (manne.guard s v act) → Due s (enabled_names manne s) b
+        by_act v Update guard = absurd (true≢false (sym guard ∙ no_update v))
+        by_act v Marry guard = let asks = manne_asks.marry s v guard in from_suitor v asks.1.0 asks.0 asks.1.1
+        by_act v Seduce guard = let aim = seduce_is s v guard in from_facing v aim.0 aim.1 aim.3 (manne_asks.seduce s v guard).0 (inl aim.2)
+        by_act v Abandon guard = let aim = abandon_is s v guard in descend v v aim.0 (omega arith) aim.1 (unanswered_unmarried s v aim.0 aim.1 aim.2)
+
+-- ---- a round ends
+
+-- if no node is pending, each pointer of an unmarried node has hope
+hope : (s : State) → Sorted s [] → (v w : ℕ) → pointer s v ≡ Some w → married s v ≡ false → (v < w) × (flag s w ≡ false)
+hope s sorted v w at single = ⊎_elim (λ yes. yes) (λ none. absurd none) (sorted v w at single)
+
+-- if each pointer of an unmarried node has hope, one leads up to a null node
+climb : (s : State) → IsState s → (b : ℕ) → Right s → Sorted s [] → cost (unmarried_nodes s) ≤ b + 2 → (k v w : ℕ) → s.network.size < w + k → pointer s v ≡ Some w → married s v ≡ false → Due s (enabled_names manne s) b
+climb s good b right sorted le zero v w most at single =
+    let high = (present_range s.network w (linked_present s.network w v good.is_network (suitor_linked s w v good at))).1 in absurd (omega (arith, most, high))
+climb s good b right sorted le (suc k) v w most at single =
+    ⊎_elim
+    (λ null. promised w v right sorted null at (enabled_in s good w Marry (marry_enabled s good w v (right w) null at)) le)
+    (λ some.
+    let alone = sym (right w) ∙ (hope s sorted v w at single).1 in
+    climb s good b right sorted le k w some.0 (omega (arith, most, (hope s sorted w some.0 some.1 alone).0)) some.1 alone)
+    (option_cases (pointer s w))
+
+ends : (s : State) → IsState s → (b : ℕ) → Due s [] b → Next s (b - 1)
+ends s good b (raised wait how le one) = ⊎_elim alone (λ more. begin_unset s good (b - 1) honest (omega (arith, more))) how
+  where
+    honest : Honest s
+    honest v on = ⊎_elim (λ wed. wed) (λ single. absurd (wait v on single)) (cases_Bool (married s v))
+
+    alone : ((v : ℕ) → married s v ≡ false) → Next s (b - 1)
+    alone single =
+        begin_facing s good (λ v. false_from_ne_true (flag s v) (λ on. true≢false (sym (honest v on) ∙ single v)) ∙ sym (single v)) (b - 1) (omega (arith, le, one)) (λ v w at lone. single w)
+ends s good b (wed honest le) = begin_unset s good (b - 1) honest (omega (arith, le))
+ends s good b (unset honest wait le) = begin_hopeless s good right (b - 1) (omega (arith, le))
+  where
+    right : Right s
+    right v =
+        ⊎_elim
+        (λ on. on ∙ sym (honest v on))
+        (λ off. off ∙ sym (false_from_ne_true (married s v) (λ wed. wait v wed off)))
+        (cases_Bool (flag s v))
+ends s good b (hopeless right sorted le one) =
+    begin_facing s good right (b - 1) (omega (arith, le, one)) (λ v w at single. sym (right w) ∙ (hope s sorted v w at single).1)
+ends s good b (facing v w right sorted near up null high there le) = absurd there
+ends s good b (hoping v w right sorted at single up off le) =
+    let two = two_unmarried s good v w (pointer_linked s v w good at) single (sym (right w) ∙ off) in
+    inr (climb s good (b - 1) right sorted (omega (arith, le, two)) (s.network.size + 1) v w (omega arith) at single)
+ends s good b (promised v u right sorted null suits there le) = absurd there
+
+some_due : (s : State) → IsState s → (pending : List ℕ) (b : ℕ) → Due s pending b → 1 ≤ b
+some_due s good pending b (raised wait how le one) = one
+some_due s good pending b (wed honest le) = omega (arith, le)
+some_due s good pending b (unset honest wait le) = omega (arith, le)
+some_due s good pending b (hopeless right sorted le one) = one
+some_due s good pending b (facing v w right sorted near up null high there le) =
+    let two = two_unmarried s good v w near (null_unmarried s v null) (⊎_elim (λ free. null_unmarried s w free) (λ suits. suitor_single s v w null suits) high) in
+    omega (arith, le, two)
+some_due s good pending b (hoping v w right sorted at single up off le) =
+    let two = two_unmarried s good v w (pointer_linked s v w good at) single (sym (right w) ∙ off) in omega (arith, le, two)
+some_due s good pending b (promised v u right sorted null suits there le) =
+    let two = two_unmarried s good v u (suitor_linked s v u good suits) (null_unmarried s v null) (suitor_single s v u null suits) in omega (arith, le, two)
+
+budget : IsRoundBudget manne Due
+budget = record {
+  keeps = λ s pending b items moves s' good step due. keeps s s' moves (joint_of s s' items moves good step) pending b due;
+  ends = λ s b good due. ends s good b due;
+  some = λ s pending b good due. some_due s good pending b due;
 }
-
--- ---- nothing is owed
-
-free_is_quiet : (s : State) → IsState s → (pending : List ℕ) → Owes s pending 0 → (v : ℕ) (act : Act) → manne.guard s v act ≡ false
-free_is_quiet s good pending (quiet none) v act = none v act
-free_is_quiet s good pending (mid (raw_alone alone wait le one)) v act = absurd (omega (arith, one))
-free_is_quiet s good pending (mid (raw_flags wait le)) v act = absurd (omega (arith, le))
-free_is_quiet s good pending (mid (plain_alone plain alone wait how le one)) v act = absurd (omega (arith, one))
-free_is_quiet s good pending (mid (plain_flags plain wait le)) v act = absurd (omega (arith, le))
-free_is_quiet s good pending (mid (anyhow plain up le)) v act = absurd (omega (arith, le))
-free_is_quiet s good pending (mid (unset_flags plain up wait le)) v act = absurd (omega (arith, le))
-free_is_quiet s good pending (mid (left_behind plain up right wait le one)) v act = absurd (omega (arith, one))
-free_is_quiet s good pending (mid (facing plain up a c near below null other there le one)) v act = absurd (omega (arith, one))
-free_is_quiet s good pending (mid (courted plain up w u null suits le one)) v act = absurd (omega (arith, one))
-free_is_quiet s good pending (mid (promised plain up w u null suits there le)) v act =
-    let two = two_singles s good w u (suitor_linked s w u good suits) (single_free (pointer s) w null) (single_waiting (pointer s) u w suits (λ back. none-some u (sym null ∙ back))) in
-    absurd (omega (arith, two, le))
 
 -- ---- the bounds
 
+begin : (s : State) → IsState s → Next s (cost (node_count s.network))
+begin s good = ⊎_elim (λ quiet. inl quiet) (λ some. by_married (some_node some.0 some.1.0 some.1.1)) (silent_or_not manne s)
+  where
+    some_node : (v : ℕ) (act : Act) → IsTrue (manne.guard s v act) → 1 ≤ node_count s.network
+    some_node v act guard =
+        let one = count_one (λ x. true) v (names s.network) (names_without_repeats s.network) (in_names s.network v (manne_inside.has s v act good guard)) refl in
+        let all = count_all (names s.network) in
+        omega (arith, one, all)
+
+    few : unmarried_nodes s ≤ node_count s.network
+    few = unmarried_few s
+
+    by_married : 1 ≤ node_count s.network → Next s (cost (node_count s.network))
+    by_married one =
+        begin_raised s good (cost (node_count s.network))
+        (⊎_elim
+        (λ (less : unmarried_nodes s + 2 ≤ node_count s.network). inr (omega (arith, less)))
+        (λ none. inl none)
+        (married_or_not s good))
+        (omega (arith, few)) (omega (arith, one))
+
+-- the rounds are at most n + 2 * (n / 2), and after as many the network is silent
+rounds_from_any : (start : Moment) → IsState start.state → (log : List Entry) (end : Moment) → Run manne start log end → IsUndisturbed log → (rounds_in manne start.state log ≤ cost (node_count start.state.network)) × (cost (node_count start.state.network) ≤ rounds_in manne start.state log → enabled_names manne end.state ≡ [])
+rounds_from_any start good log end run calm =
+    rounds_within manne Due manne_table manne_inside budget start good (enabled_names manne start.state) (cost (node_count start.state.network)) (begin start.state good) log end run calm
+
 pub rounds_are_few : (start : Moment) → IsState start.state → (log : List Entry) (end : Moment) → Run manne start log end → IsUndisturbed log → rounds_in manne start.state log ≤ node_count start.state.network + 2 * (node_count start.state.network / 2)
-rounds_are_few start good log end run calm =
-    rounds_within manne Owes manne_table manne_budget start good (enabled_names manne start.state) (cost (node_count start.state.network)) (begin start.state good (cost (node_count start.state.network)) (omega arith)) log end run calm
+rounds_are_few start good log end run calm = (rounds_from_any start good log end run calm).0
+
+pub rounds_end_silent : (start : Moment) → IsState start.state → (log : List Entry) (end : Moment) → Run manne start log end → IsUndisturbed log → node_count start.state.network + 2 * (node_count start.state.network / 2) ≤ rounds_in manne start.state log → enabled_names manne end.state ≡ []
+rounds_end_silent start good log end run calm enough = (rounds_from_any start good log end run calm).1 enough
 
 pub rounds_are_paid : (start : Moment) → IsState start.state → (log : List Entry) (end : Moment) → Run manne start log end → IsUndisturbed log → rounds_in manne start.state log ≤ unmarried_nodes start.state + 2 * (unmarried_nodes start.state / 2) + 3
 rounds_are_paid start good log end run calm =
-    let same = ap (λ u. cost u + 3) (singles_are start.state good) in
-    rounds_within manne Owes manne_table manne_budget start good (enabled_names manne start.state) (cost (unmarried_nodes start.state) + 3) (begin_raw start.state good (cost (unmarried_nodes start.state) + 3) (omega (arith, same))) log end run calm
-
--- after as many rounds the network is silent
-pub rounds_end_silent : (start : Moment) → IsState start.state → (log : List Entry) (end : Moment) → Run manne start log end → IsUndisturbed log → node_count start.state.network + 2 * (node_count start.state.network / 2) ≤ rounds_in manne start.state log → enabled_names manne end.state ≡ []
-rounds_end_silent start good log end run calm enough =
-    rounds_settle manne Owes manne_table manne_budget free_is_quiet start good (enabled_names manne start.state) (cost (node_count start.state.network)) (begin start.state good (cost (node_count start.state.network)) (omega arith)) log end run calm enough
+    (rounds_within manne Due manne_table manne_inside budget start good (enabled_names manne start.state) (cost (unmarried_nodes start.state) + 3)
+    (begin_raised start.state good (cost (unmarried_nodes start.state) + 3) (inr (omega arith)) (omega arith) (omega arith)) log end run calm).0

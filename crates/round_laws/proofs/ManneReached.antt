@@ -4,10 +4,10 @@ use Rattle.std.proofs.Common.{map as list_map, get_or}
 use Rattle.std.proofs.lemmas.Bool.{leb-true}
 use Rattle.std.proofs.lemmas.List.{get_or-replicate}
 use Rattle.rule_machine.specs.State.{flag}
-use Rattle.round_laws.proofs.Prelude.{manne, enabled_names}
+use Rattle.round_laws.proofs.Prelude.{manne}
 use Rattle.round_laws.proofs.Manne.{rounds_are_few}
-use Rattle.round_laws.proofs.Plays.{Plays, anyone}
-use Rattle.round_laws.proofs.CompleteNetworks.{up_to, up_to_good, up_to_size, up_to_is_complete, complete_count}
+use Rattle.round_laws.proofs.Plays.{reached}
+use Rattle.dense_laws.proofs.CompleteNetworks.{up_to, up_to_good, up_to_size, up_to_is_complete, complete_count}
 use Rattle.round_laws.proofs.ManneSchedule.{IsRaw, from_raw}
 use Rattle.round_laws.specs.LongRuns.{HasRun}
 
@@ -55,24 +55,11 @@ raw_begins n = record {
   set = λ v low high. raw_within n v high ∙ le-leb 1 v (omega (arith, low));
 }
 
-by_plays : (n : ℕ) → Plays manne 0 (raw n) anyone (n + 2 * (n / 2)) → HasRun manne n (n + 2 * (n / 2))
-by_plays n it = record {
-  start = record { state = raw n; spent = 0 };
-  is_state = raw_is_state n;
-  nodes = nodes;
-  log = it.log;
-  last = it.last;
-  run = it.run;
-  calm = it.calm;
-  rounds_are =
-      let enough = it.counts (enabled_names manne (raw n)) (λ v there. there) (λ v there. tt) in
-      let most = rounds_are_few (record { state = raw n; spent = 0 }) (raw_is_state n) it.log it.last it.run it.calm in
-      let same = ap (λ x. x + 2 * (x / 2)) nodes in
-      omega (arith, enough, most, same);
-}
+pub bound_is_reached : (n : ℕ) → HasRun manne n (n + 2 * (n / 2))
+bound_is_reached n =
+    reached manne n (n + 2 * (n / 2)) (raw n) (raw_is_state n) nodes
+    (λ log last run calm. let most = rounds_are_few (record { state = raw n; spent = 0 }) (raw_is_state n) log last run calm in let same = ap (λ x. x + 2 * (x / 2)) nodes in omega (arith, most, same))
+    (from_raw n 0 (raw n) (raw_begins n))
   where
     nodes : node_count (raw n).network ≡ n
     nodes = complete_count (up_to n n) n (up_to_size n n) (up_to_is_complete n)
-
-pub bound_is_reached : (n : ℕ) → HasRun manne n (n + 2 * (n / 2))
-bound_is_reached n = by_plays n (from_raw n 0 (raw n) (raw_begins n))

@@ -1,51 +1,109 @@
--- A step forms pairs and breaks none, whoever moves: each new pair takes two from the unmarried nodes.
-use Rattle.round_laws.proofs.Prelude.{◌≡◌, ℕ, ◌+◌, ◌≤◌, not, List, Option, Some, IsTrue, sym, ap, ◌∙◌, ⊎_elim, cases_Bool, true≢false, not-true, not_from_false, same_Some, names, node_count, State, IsState, pointer, married, count_agree, stance, is_paired, paired_from, paired_is, married_is, Turn, pair_stays, paired_stays, unmarried_nodes, count_le, count_less_two, count_by-le-length, IsAmong, is_single, singles}
+-- The unmarried nodes. A step of any rule set forms pairs and breaks none, and a new pair takes two from the
+-- unmarried nodes.
+use Rattle.round_laws.proofs.Prelude.{◌≡◌, ℕ, ◌+◌, ◌<◌, ◌≤◌, List, count_by, true, false, not, Some, IsTrue, refl, sym, ap, ◌∙◌, inl, inr, ◌⊎◌, ⊎_elim, arith, cases_lt, cases_Bool, not-true, not_from_false, false_from_ne_true, true≢false, none-some, same_Some, Act, Update, Marry, Seduce, Abandon, Moved, linked, names, node_count, State, IsState, pointer, married, RuleTable, AsksForWork, linked_apart, linked_back, linked_present, null_unmarried, unanswered_unmarried, married_from, married_some, in_names, names_without_repeats, count_agree, count_all, count_one, count_two, count_by-le-length, count_less_two, unmarried_nodes, among_from, IsInside, IsDone}
+use Rattle.machine_laws.proofs.NodeMoves.{Deed, idles, updates, marries, seduces, abandons}
 
--- a node is paired if it and its target point at each other
-pub paired_at : (p : ℕ → Option ℕ) (v w : ℕ) → p v ≡ Some w → p w ≡ Some v → IsTrue (is_paired (stance p v))
-paired_at p v w at back = ap is_paired (paired_from p v w at back)
+pub unmarried_few : (s : State) → unmarried_nodes s ≤ node_count s.network
+unmarried_few s = count_by-le-length (λ v. not (married s v)) (names s.network)
 
-pub paired_still : (p p' : ℕ → Option ℕ) → ((v : ℕ) → Turn p p' v) → (v : ℕ) → IsTrue (is_paired (stance p v)) → IsTrue (is_paired (stance p' v))
-paired_still p p' turns v h = ap is_paired (paired_stays p p' turns v h)
+-- two linked ones
+pub two_unmarried : (s : State) → IsState s → (v w : ℕ) → IsTrue (linked s.network v w) → married s v ≡ false → married s w ≡ false → 2 ≤ unmarried_nodes s
+two_unmarried s good v w near single also =
+    count_two (λ x. not (married s x)) v w (names s.network) (names_without_repeats s.network)
+    (in_names s.network v (linked_present s.network v w good.is_network near))
+    (in_names s.network w (linked_present s.network w v good.is_network (linked_back s.network w v ∙ near)))
+    (not_from_false (married s v) single) (not_from_false (married s w) also) (linked_apart s.network v w good.is_network near)
 
-pub single_from : (p : ℕ → Option ℕ) (v : ℕ) → (IsTrue (is_paired (stance p v)) → ⊥) → IsTrue (is_single p v)
-single_from p v alone = ⊎_elim (λ yes. absurd (alone yes)) (λ no. not_from_false (is_paired (stance p v)) no) (cases_Bool (is_paired (stance p v)))
+-- a node that is enabled, and not to update
+mover_unmarried : (t : RuleTable) → AsksForWork t → (s : State) (v : ℕ) (act : Act) → t.guard s v Update ≡ false → IsTrue (t.guard s v act) → married s v ≡ false
+mover_unmarried t asks s v Update right guard = absurd (true≢false (sym guard ∙ right))
+mover_unmarried t asks s v Marry right guard = null_unmarried s v (asks.marry s v guard).0
+mover_unmarried t asks s v Seduce right guard = null_unmarried s v (asks.seduce s v guard).0
+mover_unmarried t asks s v Abandon right guard = let at = asks.abandon s v guard in unanswered_unmarried s v at.0 at.1 at.2
 
-pub single_is : (p : ℕ → Option ℕ) (v : ℕ) → IsTrue (is_single p v) → IsTrue (is_paired (stance p v)) → ⊥
-single_is p v h paired = true≢false (sym paired ∙ not-true (is_paired (stance p v)) h)
+pub one_unmarried : (t : RuleTable) → IsInside t → AsksForWork t → (s : State) → IsState s → (v : ℕ) (act : Act) → t.guard s v Update ≡ false → IsTrue (t.guard s v act) → 1 ≤ unmarried_nodes s
+one_unmarried t inside asks s good v act right guard =
+    count_one (λ x. not (married s x)) v (names s.network) (names_without_repeats s.network) (in_names s.network v (inside.has s v act good guard))
+    (not_from_false (married s v) (mover_unmarried t asks s v act right guard))
 
-singles_were : (p p' : ℕ → Option ℕ) → ((v : ℕ) → Turn p p' v) → (v : ℕ) → IsTrue (is_single p' v) → IsTrue (is_single p v)
-singles_were p p' turns v h = single_from p v (λ paired. single_is p' v h (paired_still p p' turns v paired))
+married_two : (s : State) → IsState s → (v : ℕ) → married s v ≡ true → unmarried_nodes s + 2 ≤ node_count s.network
+married_two s good v wed =
+    let pair = married_some s v wed in
+    let among = among_from s good in
+    let ends = among.ends v pair.0 pair.1 in
+    let less = count_less_two (λ x. not (married s x)) (λ x. true) v pair.0 (names s.network) among.once (λ x h. refl)
+    (record { there = ends.0; was = refl; gone = λ h. true≢false (sym wed ∙ not-true (married s v) h) })
+    (record { there = ends.1; was = refl; gone = λ h. true≢false (sym (married_from s pair.0 v good pair.2 pair.1) ∙ not-true (married s pair.0) h) })
+    (among.apart v pair.0 pair.1) in
+    let all = count_all (names s.network) in
+    omega (arith, less, all)
 
-pub singles_fall : (p p' : ℕ → Option ℕ) (xs : List ℕ) → ((v : ℕ) → Turn p p' v) → singles p' xs ≤ singles p xs
-singles_fall p p' xs turns = count_le (is_single p') (is_single p) xs (singles_were p p' turns)
+-- two nodes are married, or none is
+pub married_or_not : (s : State) → IsState s → (unmarried_nodes s + 2 ≤ node_count s.network) ⊎ ((v : ℕ) → married s v ≡ false)
+married_or_not s good =
+    ⊎_elim
+    (λ (few : node_count s.network < unmarried_nodes s + 2). inr (λ v. false_from_ne_true (married s v) (λ wed. let two = married_two s good v wed in absurd (omega (arith, two, few)))))
+    (λ (enough : unmarried_nodes s + 2 ≤ node_count s.network). inl enough)
+    (cases_lt (node_count s.network) (unmarried_nodes s + 2))
 
--- a new pair is of two nodes that were in none
-pub pair_falls : (p p' : ℕ → Option ℕ) (xs : List ℕ) → ((v : ℕ) → Turn p p' v) → IsAmong p' xs → (v : ℕ) → (IsTrue (is_paired (stance p v)) → ⊥) → IsTrue (is_paired (stance p' v)) → singles p' xs + 2 ≤ singles p xs
-pair_falls p p' xs turns among v alone now = by_pair (paired_is p' v now)
-  where
-    by_pair : (w : ℕ) × (p' v ≡ Some w) × (p' w ≡ Some v) → singles p' xs + 2 ≤ singles p xs
-    by_pair (w, at, back) =
-        count_less_two (is_single p') (is_single p) v w xs among.once (singles_were p p' turns)
-        (record { there = (among.ends v w at).0; was = single_from p v alone; gone = λ h. single_is p' v h now })
-        (record { there = (among.ends v w at).1; was = single_from p w other; gone = λ h. single_is p' w h (paired_at p' w v back at) })
-        (among.apart v w at)
-      where
-        by_old : (z : ℕ) × (p w ≡ Some z) × (p z ≡ Some w) → ⊥
-        by_old (z, to, from) =
-            let same : z ≡ v = same_Some z v (sym (pair_stays p p' w z (turns w) to from) ∙ back) in
-            alone (paired_at p v w (ap p (sym same) ∙ from) (to ∙ ap Some same))
+-- ---- a step
 
-        other : IsTrue (is_paired (stance p w)) → ⊥
-        other h = by_old (paired_is p w h)
+module _ (t : RuleTable) (asks : AsksForWork t) (s s' : State) (moves : List Moved) (good : IsState s) (done : IsDone t s s' moves) where
+  pair_kept : (v w : ℕ) → pointer s v ≡ Some w → pointer s w ≡ Some v → pointer s' v ≡ Some w
+  pair_kept v w at back = by_deed (done.deeds v)
+    where
+      by_deed : Deed t s s' moves v → pointer s' v ≡ Some w
+      by_deed (idles none e f) = e ∙ at
+      by_deed (updates goes guard e f) = e ∙ at
+      by_deed (marries u goes guard allowed e f) = absurd (none-some w (sym (asks.marry s v guard).0 ∙ at))
+      by_deed (seduces u goes guard allowed e f) = absurd (none-some w (sym (asks.seduce s v guard).0 ∙ at))
+      by_deed (abandons goes guard e f) =
+          let aim = asks.abandon s v guard in absurd (aim.2 (ap (pointer s) (same_Some aim.0 w (sym aim.1 ∙ at)) ∙ back))
 
--- ---- in states
+  pub married_stays : (v : ℕ) → married s v ≡ true → married s' v ≡ true
+  married_stays v wed =
+      let pair = married_some s v wed in
+      married_from s' v pair.0 done.is_state (pair_kept v pair.0 pair.1 pair.2) (pair_kept pair.0 v pair.2 pair.1)
 
-abbrev pub singles_of : State → ℕ
-singles_of s = singles (pointer s) (names s.network)
+  single_was : (v : ℕ) → married s' v ≡ false → married s v ≡ false
+  single_was v single = false_from_ne_true (married s v) (λ wed. true≢false (sym (married_stays v wed) ∙ single))
 
-pub singles_are : (s : State) → IsState s → unmarried_nodes s ≡ singles_of s
-singles_are s good = count_agree (λ v. not (married s v)) (is_single (pointer s)) (λ v. ap not (married_is s v good)) (names s.network)
+  new_pair : (v : ℕ) → married s v ≡ false → married s' v ≡ true → unmarried_nodes s' + 2 ≤ unmarried_nodes s
+  new_pair v single wed =
+      let pair = married_some s' v wed in
+      let among = among_from s' done.is_state in
+      let ends = among.ends v pair.0 pair.1 in
+      let back = married_from s' pair.0 v done.is_state pair.2 pair.1 in
+      let less = count_less_two (λ x. not (married s' x)) (λ x. not (married s x)) v pair.0 (names s'.network) among.once
+      (λ x h. not_from_false (married s x) (single_was x (not-true (married s' x) h)))
+      (record { there = ends.0; was = not_from_false (married s v) single; gone = λ h. true≢false (sym wed ∙ not-true (married s' v) h) })
+      (record { there = ends.1; was = not_from_false (married s pair.0) (other pair.0 pair.2 pair.1); gone = λ h. true≢false (sym back ∙ not-true (married s' pair.0) h) })
+      (among.apart v pair.0 pair.1) in
+      let same = ap (λ net. count_by (λ x. not (married s x)) (names net)) done.network in
+      omega (arith, less, same)
+    where
+      other : (w : ℕ) → pointer s' w ≡ Some v → pointer s' v ≡ Some w → married s w ≡ false
+      other w back at = false_from_ne_true (married s w) (λ h.
+          let old = married_some s w h in
+          let same : old.0 ≡ v = same_Some old.0 v (sym (pair_kept w old.0 old.1 old.2) ∙ back) in
+          true≢false (sym (married_from s v w good (ap (pointer s) (sym same) ∙ old.2) (old.1 ∙ ap Some same)) ∙ single))
 
-pub singles_few : (s : State) → singles_of s ≤ node_count s.network
-singles_few s = count_by-le-length (is_single (pointer s)) (names s.network)
+  -- there is a new pair, or the same nodes are married
+  pub pair_or_not : (unmarried_nodes s' + 2 ≤ unmarried_nodes s) ⊎ (((v : ℕ) → married s' v ≡ married s v) × (unmarried_nodes s' ≡ unmarried_nodes s))
+  pair_or_not =
+      ⊎_elim
+      (λ (few : unmarried_nodes s < unmarried_nodes s' + 2). inr (same few, counted (same few)))
+      (λ (enough : unmarried_nodes s' + 2 ≤ unmarried_nodes s). inl enough)
+      (cases_lt (unmarried_nodes s) (unmarried_nodes s' + 2))
+    where
+      same : unmarried_nodes s < unmarried_nodes s' + 2 → (v : ℕ) → married s' v ≡ married s v
+      same few v =
+          ⊎_elim
+          (λ wed. married_stays v wed ∙ sym wed)
+          (λ single. false_from_ne_true (married s' v) (λ wed. let two = new_pair v single wed in absurd (omega (arith, two, few))) ∙ sym single)
+          (cases_Bool (married s v))
+
+      counted : ((v : ℕ) → married s' v ≡ married s v) → unmarried_nodes s' ≡ unmarried_nodes s
+      counted same =
+          count_agree (λ v. not (married s' v)) (λ v. not (married s v)) (λ v. ap not (same v)) (names s'.network)
+          ∙ ap (λ net. count_by (λ v. not (married s v)) (names net)) done.network

@@ -1,5 +1,5 @@
 -- A log completes as many rounds as it can be cut into pieces that each serve all nodes enabled at its start.
-use Rattle.round_laws.proofs.Prelude.{◌≡◌, ◌≢◌, ℕ, zero, suc, ◌+◌, ◌≤◌, Bool, true, false, not, ◌||◌, List, [], ◌∷◌, ◌++◌, length, Option, is_some, is_none, IsTrue, refl, sym, ap, ◌∙◌, subst, inl, inr, ◌⊎◌, ⊎_elim, arith, and_from, cases_Bool, or_left, or_right, true≢false, not-true, not_from_false, All-head, All-tail, All-cons, All-nil, sum_by-cons, Moved, Event, Reply, Accepted, Moves, names, State, RuleTable, rule_at, enabled_names, Entry, followed, steps_of, steps_in, IsUndisturbed, IsIn, in_names, names_present, is_mover_in, stays_pending, round_turn, rounds_from, rounds_in}
+use Rattle.round_laws.proofs.Prelude.{◌≡◌, ◌≢◌, ℕ, zero, suc, ◌+◌, ◌≤◌, Bool, true, false, not, ◌||◌, List, [], ◌∷◌, ◌++◌, length, Option, is_some, is_none, IsTrue, refl, sym, ap, ◌∙◌, subst, inl, inr, ◌⊎◌, ⊎_elim, arith, and_from, or_right, true≢false, not-true, not_from_false, All-head, All-tail, All-cons, All-nil, sum_by-cons, Act, Moved, Event, Reply, Accepted, Moves, names, State, RuleTable, rule_at, enabled_names, Entry, followed, steps_of, steps_in, IsUndisturbed, IsIn, in_names, names_present, is_mover_in, stays_pending, round_turn, rounds_from, rounds_in}
 use Rattle.round_laws.proofs.Counting.{left, in_kept}
 use Rattle.round_laws.proofs.Compare.{IsWithin, kept_in, left_is, left_enabled, enabled_near, compares}
 use Rattle.round_laws.specs.Pieces.{is_served, state_from, AreWhole, joined, IsCut}
@@ -88,20 +88,11 @@ record IsFirst (t : RuleTable) (s : State) (xs : List ℕ) (log : List Entry) : 
 -- a pending node is served by a step, or left pending
 by_left : (t : RuleTable) (s : State) (event : Event) (moves : List Moved) (piece : List Entry) (xs : List ℕ) → ((v : ℕ) → IsIn v (left t moves (followed s event (Moves moves)) xs) → IsTrue (is_served t (followed s event (Moves moves)) piece v)) → (v : ℕ) → IsIn v xs → IsTrue (is_served t s ((event, Moves moves) ∷ piece) v)
 by_left t s event moves piece xs later v there =
-    ⊎_elim
-    (λ goes. or_left (is_mover_in moves v) (is_none (rule_at t (followed s event (Moves moves)) v) || is_served t (followed s event (Moves moves)) piece v) goes)
-    (λ stays. or_right (is_mover_in moves v) (is_none (rule_at t (followed s event (Moves moves)) v) || is_served t (followed s event (Moves moves)) piece v)
-    (⊎_elim
-    (λ none. or_left (is_none (rule_at t (followed s event (Moves moves)) v)) (is_served t (followed s event (Moves moves)) piece v) none)
-    (λ some. or_right (is_none (rule_at t (followed s event (Moves moves)) v)) (is_served t (followed s event (Moves moves)) piece v)
-    (later v (in_kept (stays_pending t moves (followed s event (Moves moves))) v xs
-    (and_from (not (is_mover_in moves v)) (is_some (rule_at t (followed s event (Moves moves)) v)) (not_from_false (is_mover_in moves v) stays) (not_none_some (rule_at t (followed s event (Moves moves)) v) some))
-    there)))
-    (cases_Bool (is_none (rule_at t (followed s event (Moves moves)) v)))))
-    (cases_Bool (is_mover_in moves v))
+    served_by (is_mover_in moves v) (rule_at t (followed s event (Moves moves)) v) (is_served t (followed s event (Moves moves)) piece v)
+    (λ idle some. later v (in_kept (stays_pending t moves (followed s event (Moves moves))) v xs (and_from (not (is_mover_in moves v)) (is_some (rule_at t (followed s event (Moves moves)) v)) (not_from_false (is_mover_in moves v) idle) some) there))
   where
-    not_none_some : {X : Type 0} (o : Option X) → is_none o ≡ false → IsTrue (is_some o)
-    not_none_some o h = grind arith
+    served_by : (moved : Bool) (rule : Option Act) (later : Bool) → (moved ≡ false → IsTrue (is_some rule) → IsTrue later) → IsTrue (moved || (is_none rule || later))
+    served_by moved rule later h = grind arith
 
 step_first : (t : RuleTable) (s : State) (event : Event) (moves : List Moved) (log : List Entry) (xs ys : List ℕ) → left t moves (followed s event (Moves moves)) xs ≡ ys → IsUndisturbed log → ((zs : List ℕ) → 1 ≤ rounds_from t (followed s event (Moves moves)) zs log → IsFirst t (followed s event (Moves moves)) zs log) → 1 ≤ rounds_from t s xs ((event, Moves moves) ∷ log) → IsFirst t s xs ((event, Moves moves) ∷ log)
 step_first t s event moves log xs [] is calm more some = record {

@@ -1,5 +1,5 @@
 -- A count is the number of rounds of the entries since it began.
-use Rattle.round_laws.proofs.Prelude.{◌≡◌, ◌≢◌, ℕ, ◌+◌, List, [], ◌∷◌, ◌++◌, refl, sym, ap, ◌∙◌, arith, All-head, All-tail, Event, Reply, Accepted, Refused, Moves, Shown, EnabledAre, Pairs, Counts, State, RuleTable, enabled_names, Entry, followed, IsUndisturbed, rounds_by, rounds_from, rounds_in}
+use Rattle.round_laws.proofs.Prelude.{◌≡◌, ◌≢◌, ℕ, ◌+◌, List, [], ◌∷◌, ◌++◌, refl, sym, ap, ◌∙◌, arith, All-head, All-tail, Event, Reply, Accepted, Refused, Moves, Shown, EnabledAre, Pairs, Counts, State, RuleTable, Entry, followed, IsUndisturbed, rounds_by, rounds_from, rounds_in}
 use Rattle.round_laws.specs.Pieces.{state_from}
 use Rattle.round_laws.specs.RoundCounts.{RoundCount, count_of_log, first_count, last_count, next_count}
 

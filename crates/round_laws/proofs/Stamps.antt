@@ -2,7 +2,7 @@
 use Rattle.round_laws.proofs.Prelude.{◌≡◌, ◌≢◌, ℕ, ◌+◌, ◌<◌, ◌≤◌, Bool, false, cond, not, ◌&&◌, ◌||◌, List, [], ◌∷◌, count_by, is_some, is_none, Option, nat_lt, IsTrue, refl, sym, ap, ◌∙◌, subst, inl, ⊎_elim, arith, and_from, and_parts, cases_lt, not-true, not_from_false, eq-eqb, ne_eqb, ltb-true, lt-ltb, All-head, All-tail, Act, Moved, Event, Reply, Accepted, Moves, names, State, RuleTable, rule_at, enabled_names, Entry, followed, IsUndisturbed, IsIn, names_without_repeats, is_mover_in, stays_pending, round_turn, rounds_from, rounds_in, count_one, count_exists}
 use Rattle.round_laws.proofs.Counting.{left, in_kept}
 use Rattle.round_laws.proofs.Compare.{kept_in, left_is}
-use Rattle.round_laws.specs.Stamps.{is_waiting, stamps_after, round_after, round_from, round_reached}
+use Rattle.round_laws.specs.Stamps.{is_waiting, stamps_after, round_after, round_from, round_reached, cut_by, cuts_in}
 
 -- the pending nodes are those that wait, and no stamp is newer than the round
 record Agrees (t : RuleTable) (s : State) (pending : List ℕ) (round : ℕ) (stamp : ℕ → ℕ) : Type 0 where
@@ -63,55 +63,75 @@ one_waits t s round stamp v waits there =
 
 -- ---- a log
 
+-- so many rounds follow from a state with these pending nodes and stamps, each disturbance begun one more
+abbrev IsStamped : RuleTable → State → List Entry → Type 0
+IsStamped t s log = (pending : List ℕ) (round : ℕ) (stamp : ℕ → ℕ) → Agrees t s pending round stamp → round_from t s round stamp log ≡ round + rounds_from t s pending log + cuts_in log
+
+-- if no stamp is newer than the round before, the enabled nodes wait in the round
+all_wait : (t : RuleTable) (s : State) (round : ℕ) (stamp : ℕ → ℕ) → ((v : ℕ) → stamp v ≤ round) → Agrees t s (enabled_names t s) (round + 1) stamp
+all_wait t s round stamp old = record {
+  waits = λ v there. let kept = kept_in (λ v. is_some (rule_at t s v)) v (names s.network) there in
+      (and_from (is_some (rule_at t s v)) (nat_lt (stamp v) (round + 1)) kept.0 (lt-ltb (stamp v) (round + 1) (let old = old v in omega (arith, old))), kept.1);
+  pends = λ v waits there. in_kept (λ v. is_some (rule_at t s v)) v (names s.network) (and_parts (is_some (rule_at t s v)) (nat_lt (stamp v) (round + 1)) waits).0 there;
+  old = λ v. let old = old v in omega (arith, old);
+}
+
 -- the rounds after a step that led to s, with these nodes left pending and these stamps
-turn_stamped : (t : RuleTable) (s : State) (log : List Entry) → ((pending : List ℕ) (round : ℕ) (stamp : ℕ → ℕ) → Agrees t s pending round stamp → round_from t s round stamp log ≡ round + rounds_from t s pending log) → (xs : List ℕ) (round : ℕ) (stamp : ℕ → ℕ) → Agrees t s xs round stamp → round_from t s (round_after t s round stamp) stamp log ≡ round + ((round_turn t s xs).0 + rounds_from t s (round_turn t s xs).1 log)
+turn_stamped : (t : RuleTable) (s : State) (log : List Entry) → IsStamped t s log → (xs : List ℕ) (round : ℕ) (stamp : ℕ → ℕ) → Agrees t s xs round stamp → round_from t s (round_after t s round stamp) stamp log ≡ round + ((round_turn t s xs).0 + rounds_from t s (round_turn t s xs).1 log) + (0 + cuts_in log)
 turn_stamped t s log more [] round stamp it =
     let next = none_waits t s round stamp (λ v waits there. it.pends v waits there) in
-    let counts = more (enabled_names t s) (round + 1) stamp (record {
-      waits = λ v there. let kept = kept_in (λ v. is_some (rule_at t s v)) v (names s.network) there in
-          (and_from (is_some (rule_at t s v)) (nat_lt (stamp v) (round + 1)) kept.0 (lt-ltb (stamp v) (round + 1) (let old = it.old v in omega (arith, old))), kept.1);
-      pends = λ v waits there. in_kept (λ v. is_some (rule_at t s v)) v (names s.network) (and_parts (is_some (rule_at t s v)) (nat_lt (stamp v) (round + 1)) waits).0 there;
-      old = λ v. let old = it.old v in omega (arith, old);
-    }) in
-    ap (λ r. round_from t s r stamp log) next ∙ counts ∙ add_one round (rounds_from t s (enabled_names t s) log)
+    ap (λ r. round_from t s r stamp log) next ∙ more (enabled_names t s) (round + 1) stamp (all_wait t s round stamp it.old) ∙ add_one round (rounds_from t s (enabled_names t s) log) (cuts_in log)
   where
-    add_one : (a b : ℕ) → a + 1 + b ≡ a + (1 + b)
-    add_one a b = omega arith
+    add_one : (a b c : ℕ) → a + 1 + b + c ≡ a + (1 + b) + (0 + c)
+    add_one a b c = omega arith
 turn_stamped t s log more (x ∷ xs) round stamp it =
     let first = it.waits x (inl refl) in
-    ap (λ r. round_from t s r stamp log) (one_waits t s round stamp x first.0 first.1) ∙ more (x ∷ xs) round stamp it ∙ add_none round (rounds_from t s (x ∷ xs) log)
+    ap (λ r. round_from t s r stamp log) (one_waits t s round stamp x first.0 first.1) ∙ more (x ∷ xs) round stamp it ∙ add_none round (rounds_from t s (x ∷ xs) log) (cuts_in log)
   where
-    add_none : (a b : ℕ) → a + b ≡ a + (0 + b)
-    add_none a b = omega arith
+    add_none : (a b c : ℕ) → a + b + c ≡ a + (0 + b) + (0 + c)
+    add_none a b c = omega arith
 
-entry_stamped : (t : RuleTable) (s : State) (event : Event) (reply : Reply) (log : List Entry) → reply ≢ Accepted → ((pending : List ℕ) (round : ℕ) (stamp : ℕ → ℕ) → Agrees t (followed s event reply) pending round stamp → round_from t (followed s event reply) round stamp log ≡ round + rounds_from t (followed s event reply) pending log) → (pending : List ℕ) (round : ℕ) (stamp : ℕ → ℕ) → Agrees t s pending round stamp → round_from t s round stamp ((event, reply) ∷ log) ≡ round + rounds_from t s pending ((event, reply) ∷ log)
-entry_stamped t s event (Moves moves) log calm more pending round stamp it =
+entry_stamped : (t : RuleTable) (s : State) (event : Event) (reply : Reply) (log : List Entry) → IsStamped t (followed s event reply) log → IsStamped t s ((event, reply) ∷ log)
+entry_stamped t s event (Moves moves) log more pending round stamp it =
     turn_stamped t (followed s event (Moves moves)) log more (left t moves (followed s event (Moves moves)) pending) round (stamps_after t s moves (followed s event (Moves moves)) round stamp) (record {
       waits = left_waits t s (followed s event (Moves moves)) moves refl pending round stamp it;
       pends = waits_left t s (followed s event (Moves moves)) moves refl pending round stamp it;
       old = old_then t s (followed s event (Moves moves)) moves refl pending round stamp it;
     })
-entry_stamped t s event Accepted log calm more pending round stamp it = absurd (calm refl)
-entry_stamped t s event reply log calm more pending round stamp it = more pending round stamp it ∙ add_none round (rounds_from t s pending log)
+entry_stamped t s event Accepted log more pending round stamp it =
+    more (enabled_names t (followed s event Accepted)) (round + 1) stamp (all_wait t (followed s event Accepted) round stamp it.old) ∙ swap round (rounds_from t (followed s event Accepted) (enabled_names t (followed s event Accepted)) log) (cuts_in log)
   where
-    add_none : (a b : ℕ) → a + b ≡ a + (0 + b)
-    add_none a b = omega arith
-
-log_stamped : (t : RuleTable) (s : State) (log : List Entry) → IsUndisturbed log → (pending : List ℕ) (round : ℕ) (stamp : ℕ → ℕ) → Agrees t s pending round stamp → round_from t s round stamp log ≡ round + rounds_from t s pending log
-log_stamped t s [] calm pending round stamp it = omega arith
-log_stamped t s (entry ∷ log) calm pending round stamp it =
-    entry_stamped t s entry.0 entry.1 log (All-head (λ e. e.1 ≢ Accepted) entry log calm)
-    (λ pending round stamp it. log_stamped t (followed s entry.0 entry.1) log (All-tail (λ e. e.1 ≢ Accepted) entry log calm) pending round stamp it)
-    pending round stamp it
-
-pub rounds_are_stamped : (t : RuleTable) (s : State) (log : List Entry) → IsUndisturbed log → round_reached t s log ≡ rounds_in t s log + 1
-rounds_are_stamped t s log calm =
-    log_stamped t s log calm (enabled_names t s) 1 (λ v. 0) (record {
-      waits = λ v there. let kept = kept_in (λ v. is_some (rule_at t s v)) v (names s.network) there in
-          (and_from (is_some (rule_at t s v)) (nat_lt 0 1) kept.0 refl, kept.1);
-      pends = λ v waits there. in_kept (λ v. is_some (rule_at t s v)) v (names s.network) (and_parts (is_some (rule_at t s v)) (nat_lt 0 1) waits).0 there;
-      old = λ v. omega arith;
-    }) ∙ swap (rounds_in t s log)
+    swap : (a b c : ℕ) → a + 1 + b + c ≡ a + (0 + b) + (1 + c)
+    swap a b c = omega arith
+entry_stamped t s event reply log more pending round stamp it = more pending round stamp it ∙ add_none round (rounds_from t s pending log) (cuts_in log)
   where
-    swap : (a : ℕ) → 1 + a ≡ a + 1
-    swap a = omega arith
+    add_none : (a b c : ℕ) → a + b + c ≡ a + (0 + b) + (0 + c)
+    add_none a b c = omega arith
+
+log_stamped : (t : RuleTable) (s : State) (log : List Entry) → IsStamped t s log
+log_stamped t s [] pending round stamp it = omega arith
+log_stamped t s (entry ∷ log) pending round stamp it =
+    entry_stamped t s entry.0 entry.1 log (log_stamped t (followed s entry.0 entry.1) log) pending round stamp it
+
+uncut : (log : List Entry) → IsUndisturbed log → cuts_in log ≡ 0
+uncut [] calm = refl
+uncut (entry ∷ log) calm =
+    let first = calm_reply entry.1 (All-head (λ e. e.1 ≢ Accepted) entry log calm) in
+    let rest = uncut log (All-tail (λ e. e.1 ≢ Accepted) entry log calm) in
+    omega (arith, first, rest)
+  where
+    calm_reply : (reply : Reply) → reply ≢ Accepted → cut_by reply ≡ 0
+    calm_reply Accepted calm = absurd (calm refl)
+    calm_reply reply calm = refl
+
+pub rounds_are_stamped : (t : RuleTable) (s : State) (log : List Entry) → round_reached t s log ≡ rounds_in t s log + cuts_in log + 1
+rounds_are_stamped t s log = log_stamped t s log (enabled_names t s) 1 (λ v. 0) (all_wait t s 0 (λ v. 0) (λ v. omega arith)) ∙ swap (rounds_in t s log) (cuts_in log)
+  where
+    swap : (a b : ℕ) → 1 + a + b ≡ a + b + 1
+    swap a b = omega arith
+
+pub undisturbed_rounds_are_stamped : (t : RuleTable) (s : State) (log : List Entry) → IsUndisturbed log → round_reached t s log ≡ rounds_in t s log + 1
+undisturbed_rounds_are_stamped t s log calm = rounds_are_stamped t s log ∙ ap (λ n. rounds_in t s log + n + 1) (uncut log calm) ∙ add_none (rounds_in t s log)
+  where
+    add_none : (a : ℕ) → a + 0 + 1 ≡ a + 1
+    add_none a = omega arith

@@ -15,7 +15,7 @@ ghost use Rattle.round_laws.specs.LongRuns.{HasRun};
 ghost use Rattle.round_laws.specs.Pieces.{IsCut, state_from};
 ghost use Rattle.round_laws.specs.RoundCounts.{RoundCount, count_of_log, last_count};
 ghost use Rattle.round_laws.specs.Rounds.{rounds_in};
-ghost use Rattle.round_laws.specs.Stamps.{round_reached};
+ghost use Rattle.round_laws.specs.Stamps.{cuts_in, round_reached};
 
 /// By Hsu and Huang's rules n nodes complete at most n rounds between two disturbances.
 ///
@@ -69,9 +69,11 @@ pub fn rounds_are_pieces()
 /// A number for each node, its stamp, gives the same count of rounds as the list of pending nodes.
 ///
 /// In round 1 all stamps are 0. A step changes only the stamps of its movers and of nodes that become enabled;
-/// a new round changes none. Holds for any table of rules.
+/// a new round changes none. An accepted disturbance begins a new round, and changes none either. Holds for any
+/// table of rules.
 pub fn rounds_are_stamped()
-    ensures { (t : RuleTable) (s : State) (log : List Entry) → IsUndisturbed log → round_reached t s log ≡ rounds_in t s log + 1 }
+    ensures undisturbed { (t : RuleTable) (s : State) (log : List Entry) → IsUndisturbed log → round_reached t s log ≡ rounds_in t s log + 1 }
+    ensures disturbed { (t : RuleTable) (s : State) (log : List Entry) → round_reached t s log ≡ rounds_in t s log + cuts_in log + 1 }
 {}
 
 /// A count that is kept entry by entry is the rounds of the entries since the last accepted disturbance.

@@ -11,12 +11,11 @@ use Rattle.step_log.specs.declared.fault.RecordFault.TheVariants.{LogFull, Memor
 use Rattle.run_session.specs.Line.{CommandEnds}
 use Rattle.rudekpi_c.specs.declared.session.Session.{Session}
 use Rattle.rudekpi_c.specs.declared.call_result.CallResult.{CallResult}
-use Rattle.rudekpi_c.specs.Session.{stands, rules_of, limit_of, GoesOn, CommandEnded}
+use Rattle.rudekpi_c.specs.Session.{stands, rules_of, limit_of, HasSameRules, CommandEnded}
 use Rattle.rudekpi_c.specs.SilentDrives.{Silences}
 use Rattle.rudekpi_c.specs.Slot.{IsPutBack}
 use Rattle.rudekpi_c.specs.ReplyNumbers.{told_of, entry_status}
 use Rattle.rudekpi_c.specs.CommandCalls.{AnswersCommand, IsCommandOutcome, number_at, reply_kept, command_status}
-use Rattle.rudekpi_c.proofs.SessionCycle.{goes_from, goes_further}
 
 follows_of : (t : RuleTable) (limit : ℕ) (command : Command) (number : ℕ) (reply : Reply) (before after : Progress) (result : Result Unit RecordFault)
     → CommandEnds t limit command before after result → number ≡ number_at command after.count result → reply ≡ reply_kept t command before result
@@ -32,47 +31,29 @@ silenced t command reply before after (Ok done) zero silent = silent
 silenced t command reply before after (Err LogFull) zero silent = absurd (omega (arith, zero))
 silenced t command reply before after (Err Memory) zero silent = absurd (omega (arith, zero))
 
--- the session `from` was taken out, has followed a command and is put back
-pub record Heard (command : Command) (old new : Option Session) (result : Result Unit RecordFault) : Type 0 where
-  pub from : Session
-  pub borrowed : Session
-  pub followed : Session
-  pub was : old ≡ Some from
-  pub same : borrowed ≡ from
-  pub ends : CommandEnded (rules_of borrowed) (limit_of borrowed) command (stands borrowed) (stands followed) result
-  pub silent : OnOk result (Silences (table_of (rules_of borrowed)) command (stands borrowed).moment.state (stands followed).moment.state)
-  pub number : followed.answer.seq ≡ number_at command (stands followed).count result
-  pub reply : followed.answer.reply ≡ reply_kept (table_of (rules_of borrowed)) command (stands borrowed) result
-  pub goes_on : GoesOn borrowed followed
-  pub lines : followed.lines ≡ borrowed.lines
-  pub back : IsPutBack followed new
-
-pub was_called : {command : Command} {status : ℕ} {told : CallResult} {old new : Option Session} {result : Result Unit RecordFault} → IsCommand command → (heard : Heard command old new result)
-    → status ≡ command_status heard.followed.answer.reply result → told ≡ told_of heard.followed.answer.seq heard.followed.answer.reply → AnswersCommand command status told old new
-was_called {command} {status} {told} {old} {new} {result} good heard status_is told_is =
-    let to = heard.back.t in
-    let t = table_of (rules_of heard.from) in
-    let answer : to.answer ≡ heard.followed.answer = heard.back.answer_is in
-    let ends = subst (λ (s : Session). CommandEnded (rules_of s) (limit_of s) command (stands s) (stands heard.followed) result) heard.same heard.ends in
-    let number : to.answer.seq ≡ number_at command (stands heard.followed).count result = ap (λ a. a.seq) answer ∙ heard.number in
-    let reply : to.answer.reply ≡ reply_kept t command (stands heard.from) result =
-    ap (λ a. a.reply) answer ∙ heard.reply ∙ ap (λ (s : Session). reply_kept (table_of (rules_of s)) command (stands s) result) heard.same in
-    let told_status : status ≡ command_status to.answer.reply result = status_is ∙ ap (λ a. command_status a.reply result) (sym answer) in
-    let follows = follows_of t (limit_of heard.from) command to.answer.seq to.answer.reply (stands heard.from) (stands heard.followed) result ends number reply in
+-- a session was taken out, has followed a command and is put back
+pub was_called : {command : Command} {status : ℕ} {told : CallResult} {old new : Option Session} (result : Result Unit RecordFault) (s followed : Session) → IsCommand command → old ≡ Some s
+    → CommandEnded (rules_of s) (limit_of s) command (stands s) (stands followed) result → OnOk result (Silences (table_of (rules_of s)) command (stands s).moment.state (stands followed).moment.state)
+    → followed.answer.seq ≡ number_at command (stands followed).count result → followed.answer.reply ≡ reply_kept (table_of (rules_of s)) command (stands s) result
+    → HasSameRules s.machine followed.machine → followed.lines ≡ s.lines → followed.keeps ≡ s.keeps → IsPutBack followed new
+    → status ≡ command_status followed.answer.reply result → told ≡ told_of followed.answer.seq followed.answer.reply → AnswersCommand command status told old new
+was_called {command} result s followed good was ends silent number reply same lines keeps back status_is told_is =
+    let t = table_of (rules_of s) in
+    let answer = followed.answer in
+    let follows = follows_of t (limit_of s) command answer.seq answer.reply (stands s) (stands followed) result ends number reply in
     inr (inr (
       good,
       record {
-        s = heard.from;
-        t = to;
-        was = heard.was;
-        is = heard.back.is;
-        goes_on = goes_further (goes_from heard.same heard.goes_on) heard.back.goes_on;
-        lines = heard.back.lines_is ∙ heard.lines ∙ ap (λ (s : Session). s.lines) heard.same;
-        after = stands heard.followed;
-        follows = subst (λ n. IsCommandOutcome t (limit_of heard.from) command n to.answer.seq to.answer.reply (stands heard.from) (stands heard.followed)) (sym told_status) follows;
-        silent = λ zero. silenced t command to.answer.reply (stands heard.from) (stands heard.followed) result (sym told_status ∙ zero)
-            (subst (λ (s : Session). OnOk result (Silences (table_of (rules_of s)) command (stands s).moment.state (stands heard.followed).moment.state)) heard.same heard.silent);
-        stands_is = heard.back.stands_is;
-        told_is = told_is ∙ ap (λ a. told_of a.seq a.reply) (sym answer);
+        s = s;
+        t = record followed { machine = back.machine };
+        was = was;
+        is = back.is;
+        goes_on = record { rules = back.same.0 ∙ same.0; limit = back.same.1 ∙ same.1; keeps = keeps };
+        lines = lines;
+        after = stands followed;
+        follows = subst (λ n. IsCommandOutcome t (limit_of s) command n answer.seq answer.reply (stands s) (stands followed)) (sym status_is) follows;
+        silent = λ zero. silenced t command answer.reply (stands s) (stands followed) result (sym status_is ∙ zero) silent;
+        stands_is = back.stands_is;
+        told_is = told_is;
       },
     ))

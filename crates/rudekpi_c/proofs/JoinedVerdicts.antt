@@ -1,9 +1,9 @@
 -- What a joined verdict means.
-use Rattle.std.proofs.Common.{◌≤◌, ◌≡◌, ◌≢◌, ◌⊎◌, ◌++◌, ◌∙◌, ℕ, List, Ok, Err, inl, inr, refl, sym, ap, subst, arith}
+use Rattle.std.proofs.Common.{◌≤◌, ◌≡◌, ◌⊎◌, ◌++◌, ◌∙◌, ℕ, List, Ok, Err, inl, inr, refl, sym, ap, subst, arith}
 use Rattle.auditor.specs.declared.fault.AuditFault.{AuditFault}
 use Rattle.auditor.specs.declared.fault.AuditFault.TheVariants.{Read, Memory}
 use Rattle.auditor.specs.declared.summary.Summary.{Summary}
-use Rattle.auditor.specs.Damage.{IsDamage, line_feeds}
+use Rattle.auditor.specs.Damage.{IsDamage}
 use Rattle.auditor.specs.AcceptedRuns.{IsAccepted}
 use Rattle.auditor.specs.Verdict.{IsJudged}
 use Rattle.auditor.proofs.VerdictUniqueness.{judged_accepts, judged_names}
@@ -11,7 +11,7 @@ use Rattle.audit_parts.specs.Continuations.{ContinuesRun}
 use Rattle.audit_parts.specs.FieldRanges.{AreLinesBefore, FitsFields}
 use Rattle.audit_parts.specs.Seams as seams
 use Rattle.rudekpi_c.specs.declared.verdict.Verdict.{Verdict}
-use Rattle.rudekpi_c.specs.JoinCalls.{CountsLines, IsJoined, IsUnjoined, said_by}
+use Rattle.rudekpi_c.specs.JoinCalls.{CountsLines, IsJoined, said_by}
 use Rattle.rudekpi_c.specs.AuditVerdicts.{JudgedAs, accepted, damaged, unjudged, audit_verdict}
 use Rattle.rudekpi_c.proofs.AuditVerdicts.{judged_as}
 

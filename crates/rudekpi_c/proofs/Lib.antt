@@ -7,7 +7,6 @@ pub mod CommandCalls
 pub mod StatusNumbers
 pub mod LineCalls
 pub mod LocalCalls
-pub mod SessionCycle
 pub mod TextTransfer
 pub mod JoinedVerdicts
 pub mod AuditVerdicts

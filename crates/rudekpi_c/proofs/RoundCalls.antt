@@ -11,38 +11,20 @@ use Rattle.round_laws.specs.Rounds.{rounds_in}
 use Rattle.rule_engine.specs.Rounds.{HasRounds}
 use Rattle.rule_engine.specs.RoundsLeft.{LeavesIfCounted}
 use Rattle.rudekpi_c.specs.RoundCalls.{AnswersCounting, AnswersRounds, AnswersRoundsLeft, CountsLog, TellsRounds, TellsRoundsLeft, counted_from}
-use Rattle.rudekpi_c.specs.Session.{stands, rules_of, GoesOn}
+use Rattle.rudekpi_c.specs.Session.{stands, stands_at, rules_of, HasSameRules}
+use Rattle.rudekpi_c.specs.declared.session.Machine.{Machine}
 use Rattle.rudekpi_c.specs.declared.session.Session.{Session}
-use Rattle.rudekpi_c.proofs.SessionCycle.{goes_from}
 
--- a session was taken out, borrowed, and put back as it is then
-pub record IsReturned (old new : Option Session) : Type 0 where
-  pub from : Session
-  pub borrowed : Session
-  pub changed : Session
-  pub was : old ≡ Some from
-  pub same : borrowed ≡ from
-  pub is : new ≡ Some changed
-
--- its rounds are counted from then on
-pub began : {old new : Option Session} (it : IsReturned old new) → GoesOn it.borrowed it.changed → it.changed.lines ≡ it.borrowed.lines → it.changed.answer ≡ it.borrowed.answer → stands it.changed ≡ counted_from (table_of (rules_of it.borrowed)) (stands it.borrowed) → AnswersCounting 0 old new
-began {old} {new} it goes_on lines answer counts =
-    subst (λ (o : Option Session). AnswersCounting 0 o new) (sym it.was) (inl (
-      refl,
-      record {
-        t = it.changed;
-        is = it.is;
-        goes_on = goes_from it.same goes_on;
-        lines = lines ∙ ap (λ (s : Session). s.lines) it.same;
-        answer = answer ∙ ap (λ (s : Session). s.answer) it.same;
-        stands_is = counts ∙ ap (λ (s : Session). counted_from (table_of (rules_of s)) (stands s)) it.same;
-      },
-    ))
+-- the rounds of a session are counted from then on
+pub began : {old new : Option Session} (s : Session) (counting : Machine) → old ≡ Some s → new ≡ Some (record s { machine = counting }) → HasSameRules s.machine counting → stands_at counting ≡ counted_from (table_of (rules_of s)) (stands s) → AnswersCounting 0 old new
+began {new = new} s counting was is same counts =
+    subst (λ (o : Option Session). AnswersCounting 0 o new) (sym was)
+    (inl (refl, record { t = record s { machine = counting }; is = is; goes_on = record { rules = same.0; limit = same.1; keeps = refl }; lines = refl; answer = refl; stands_is = counts }))
 
 -- memory ran out
-pub not_begun : {old new : Option Session} (it : IsReturned old new) → it.changed ≡ it.borrowed → AnswersCounting 3 old new
-not_begun {old} {new} it kept =
-    subst (λ (o : Option Session). AnswersCounting 3 o new) (sym it.was) (inr (refl, it.is ∙ ap (λ (s : Session). Some s) (kept ∙ it.same)))
+pub not_begun : {old new : Option Session} (s : Session) (left : Machine) → old ≡ Some s → new ≡ Some (record s { machine = left }) → left ≡ s.machine → AnswersCounting 3 old new
+not_begun {new = new} s left was is same =
+    subst (λ (o : Option Session). AnswersCounting 3 o new) (sym was) (inr (refl, is ∙ ap (λ (m : Machine). Some (record s { machine = m })) same))
 
 told_if : (t : RuleTable) (m : Moment) (counting : Option RoundCount) (told : Option ℕ) (rounds : ℕ) → told ≡ rounds_of counting → told ≡ Some rounds → IfSome counting (λ count. HasRounds t m count) → TellsRounds 0 rounds t m counting
 told_if t m None told rounds is some has = absurd (none-some rounds (sym is ∙ some))
@@ -53,18 +35,18 @@ untold_if t m None told is none = (refl, refl)
 untold_if t m (Some count) told is none = absurd (none-some count.rounds (sym none ∙ is))
 
 -- these rounds are told, or none
-pub rounds_told : (old : Option Session) (from borrowed : Session) (told : Option ℕ) (rounds : ℕ) → old ≡ Some from → borrowed ≡ from → told ≡ rounds_of (stands borrowed).counting → told ≡ Some rounds → IfSome (stands borrowed).counting (λ count. HasRounds (table_of (rules_of borrowed)) (stands borrowed).moment count) → AnswersRounds 0 rounds old
-rounds_told old from borrowed told rounds was same is some has =
-    subst (λ (o : Option Session). AnswersRounds 0 rounds o) (ap (λ (s : Session). Some s) same ∙ sym was) (told_if (table_of (rules_of borrowed)) (stands borrowed).moment (stands borrowed).counting told rounds is some has)
+pub rounds_told : (old : Option Session) (s : Session) (told : Option ℕ) (rounds : ℕ) → old ≡ Some s → told ≡ rounds_of (stands s).counting → told ≡ Some rounds → IfSome (stands s).counting (λ count. HasRounds (table_of (rules_of s)) (stands s).moment count) → AnswersRounds 0 rounds old
+rounds_told old s told rounds was is some has =
+    subst (λ (o : Option Session). AnswersRounds 0 rounds o) (sym was) (told_if (table_of (rules_of s)) (stands s).moment (stands s).counting told rounds is some has)
 
-pub rounds_untold : (old : Option Session) (from borrowed : Session) (told : Option ℕ) → old ≡ Some from → borrowed ≡ from → told ≡ rounds_of (stands borrowed).counting → told ≡ None → AnswersRounds 10 0 old
-rounds_untold old from borrowed told was same is none =
-    subst (λ (o : Option Session). AnswersRounds 10 0 o) (ap (λ (s : Session). Some s) same ∙ sym was) (untold_if (table_of (rules_of borrowed)) (stands borrowed).moment (stands borrowed).counting told is none)
+pub rounds_untold : (old : Option Session) (s : Session) (told : Option ℕ) → old ≡ Some s → told ≡ rounds_of (stands s).counting → told ≡ None → AnswersRounds 10 0 old
+rounds_untold old s told was is none =
+    subst (λ (o : Option Session). AnswersRounds 10 0 o) (sym was) (untold_if (table_of (rules_of s)) (stands s).moment (stands s).counting told is none)
 
 -- what is told of a session that counts a log
-pub log_told : (old : Option Session) (from borrowed : Session) (told : Option ℕ) → old ≡ Some from → borrowed ≡ from → told ≡ rounds_of (stands borrowed).counting → (session : Session) (start : State) (log : List Entry) → old ≡ Some session → CountsLog session start log → told ≡ Some (rounds_in (table_of (rules_of session)) start log)
-log_told old from borrowed told was same is session start log given counts =
-    is ∙ ap (λ (s : Session). rounds_of (stands s).counting) (same ∙ same_Some from session (sym was ∙ given)) ∙ ap rounds_of counts.counting_is
+pub log_told : (old : Option Session) (s : Session) (told : Option ℕ) → old ≡ Some s → told ≡ rounds_of (stands s).counting → (session : Session) (start : State) (log : List Entry) → old ≡ Some session → CountsLog session start log → told ≡ Some (rounds_in (table_of (rules_of session)) start log)
+log_told old s told was is session start log given counts =
+    is ∙ ap (λ (s : Session). rounds_of (stands s).counting) (same_Some s session (sym was ∙ given)) ∙ ap rounds_of counts.counting_is
     ∙ ap (λ (n : ℕ). Some n) (counted_whole (table_of (rules_of session)) start log counts.calm)
 
 left_if : (t : RuleTable) (m : Moment) (counting : Option RoundCount) (told : Option ℕ) (left : ℕ) → LeavesIfCounted t m counting told → told ≡ Some left → TellsRoundsLeft 0 left t m counting
@@ -75,10 +57,10 @@ none_if : (t : RuleTable) (m : Moment) (counting : Option RoundCount) (told : Op
 none_if t m None told is none = (refl, refl)
 none_if t m (Some count) told is none = absurd (subst (λ (o : Option ℕ). LeavesIfCounted t m (Some count) o) none is)
 
-pub left_told : (old : Option Session) (from borrowed : Session) (told : Option ℕ) (left : ℕ) → old ≡ Some from → borrowed ≡ from → LeavesIfCounted (table_of (rules_of borrowed)) (stands borrowed).moment (stands borrowed).counting told → told ≡ Some left → AnswersRoundsLeft 0 left old
-left_told old from borrowed told left was same is some =
-    subst (λ (o : Option Session). AnswersRoundsLeft 0 left o) (ap (λ (s : Session). Some s) same ∙ sym was) (left_if (table_of (rules_of borrowed)) (stands borrowed).moment (stands borrowed).counting told left is some)
+pub left_told : (old : Option Session) (s : Session) (told : Option ℕ) (left : ℕ) → old ≡ Some s → LeavesIfCounted (table_of (rules_of s)) (stands s).moment (stands s).counting told → told ≡ Some left → AnswersRoundsLeft 0 left old
+left_told old s told left was is some =
+    subst (λ (o : Option Session). AnswersRoundsLeft 0 left o) (sym was) (left_if (table_of (rules_of s)) (stands s).moment (stands s).counting told left is some)
 
-pub left_untold : (old : Option Session) (from borrowed : Session) (told : Option ℕ) → old ≡ Some from → borrowed ≡ from → LeavesIfCounted (table_of (rules_of borrowed)) (stands borrowed).moment (stands borrowed).counting told → told ≡ None → AnswersRoundsLeft 10 0 old
-left_untold old from borrowed told was same is none =
-    subst (λ (o : Option Session). AnswersRoundsLeft 10 0 o) (ap (λ (s : Session). Some s) same ∙ sym was) (none_if (table_of (rules_of borrowed)) (stands borrowed).moment (stands borrowed).counting told is none)
+pub left_untold : (old : Option Session) (s : Session) (told : Option ℕ) → old ≡ Some s → LeavesIfCounted (table_of (rules_of s)) (stands s).moment (stands s).counting told → told ≡ None → AnswersRoundsLeft 10 0 old
+left_untold old s told was is none =
+    subst (λ (o : Option Session). AnswersRoundsLeft 10 0 o) (sym was) (none_if (table_of (rules_of s)) (stands s).moment (stands s).counting told is none)

@@ -1,5 +1,5 @@
 -- The text of a session that C keeps stays a transcript, call by call.
-use Rattle.std.proofs.Common.{◌≡◌, ◌≢◌, ◌∙◌, ◌+◌, ◌<◌, ◌≤◌, ℕ, Bool, true, false, inl, inr, List, [], ◌++◌, length, drop, Option, None, Some, Ok, Err, refl, sym, ap, subst, append-nil, arith}
+use Rattle.std.proofs.Common.{◌≡◌, ◌≢◌, ◌∙◌, ◌<◌, ◌≤◌, ℕ, Bool, true, false, inl, inr, List, [], ◌++◌, length, drop, Option, None, Some, Ok, Err, refl, sym, ap, subst, append-nil, arith}
 use Rattle.std.proofs.lemmas.Bool.{true≢false}
 use Rattle.std.proofs.lemmas.Option.{same_Some}
 use Rattle.rule_machine.specs.Base.{base_of}
@@ -25,9 +25,9 @@ use Rattle.rudekpi_c.specs.declared.call_result.CallResult.{CallResult}
 use Rattle.rudekpi_c.specs.declared.verdict.Verdict.{Verdict}
 use Rattle.rudekpi_c.specs.CommandCalls.{AnswersCommand, IsCommandOutcome}
 use Rattle.rudekpi_c.specs.Renumbering.{AnswersRenumber, RenumberingEnds, ended_length, length_if, renumbered}
-use Rattle.rudekpi_c.specs.Resumption.{GoesOnFrom, ResumesSession}
+use Rattle.rudekpi_c.specs.Resumption.{ResumesSession}
 use Rattle.rudekpi_c.specs.RoundCalls.{AnswersCounting}
-use Rattle.rudekpi_c.specs.Session.{GoesOn, limit_of, rules_of, stands, with_text_if}
+use Rattle.rudekpi_c.specs.Session.{GoesOn, IsNewSession, limit_of, rules_of, stands, with_text_if}
 use Rattle.rudekpi_c.specs.SessionQuestions.{AnswersKeep}
 use Rattle.rudekpi_c.specs.SessionTexts.{BeginsNextTranscript, HasTranscript, HasAcceptedText, ReadsTranscript, IsTranscribed, base_opening}
 use Rattle.rudekpi_c.specs.Slot.{AnswersFeed, AnswersLine, Handed, OpensSession, named}
@@ -148,8 +148,6 @@ read_on was out n (Some s) new ended first o (is, handed) fits has =
 
 -- ---- renumbering
 
--- ---- renumbering
-
 next_begun : (ended first : List ℕ) (o : Opening) (n : ℕ) (s t : Session) (new : Option Session) (after : Progress) → new ≡ Some t → GoesOn s t → stands t ≡ with_text_if t.keeps after → n ≡ ended_length s → after ≡ renumbered (stands s) → IsTranscribed ended first o s → BeginsNextTranscript ended first o n s new
 next_begun ended first o n s t new after is goes stands_is length_is after_is has =
     let p = stands s in
@@ -183,29 +181,21 @@ renumbered_next n s new ended first o (inr nobody) has = absurd (subst (HasTrans
 
 -- ---- the beginning
 
+started : (first : List ℕ) (o : Opening) (at : Progress) (s : Session) (new : Option Session) → new ≡ Some s → IsNewSession at s → IsWrittenBehind first o at → HasTranscript [] first o new
+started first o at s new is starts begun =
+    let limit = starts.limit_is in
+    subst (HasTranscript [] first o) (sym is) (record {
+      keeps = starts.keeps_is;
+      limit = omega (arith, limit);
+      rules = ap (λ (p : Progress). p.rules) starts.stands_is ∙ sym starts.rules_is;
+      written = subst (IsWrittenAfter [] first o) (sym starts.stands_is) (from_start first o at begun);
+    })
+
 pub opened_written : (rules nodes present : ℕ) (new : Option Session) → OpensSession rules nodes present 0 new → HasTranscript [] [] (Named nodes present) new
 opened_written rules nodes present new (inl (wanted, zero, fresh)) =
-    let limit = fresh.limit_is in
-    let begun = first_written (named rules) nodes present wanted.1 wanted.2 in
-    subst (HasTranscript [] [] (Named nodes present)) (sym fresh.is) (record {
-      keeps = fresh.keeps_is;
-      limit = omega (arith, limit);
-      rules = ap (λ (p : Progress). p.rules) fresh.stands_is ∙ sym fresh.rules_is;
-      written = subst (IsWrittenAfter [] [] (Named nodes present)) (sym fresh.stands_is) (from_start [] (Named nodes present) (first_progress (named rules) nodes present) begun);
-    })
+    started [] (Named nodes present) (first_progress (named rules) nodes present) fresh.session new fresh.is fresh.starts (first_written (named rules) nodes present wanted.1 wanted.2)
 opened_written rules nodes present new (inr (inl (wanted, other, none))) = absurd (omega (arith, other))
 opened_written rules nodes present new (inr (inr (unwanted, other, none))) = absurd (omega (arith, other))
-
--- The session goes on from the end of a transcript. `resumed` is the start behind that end.
-from_end : (first : List ℕ) (o : Opening) (end : TranscriptEnd) (s : Session) (new : Option Session) → new ≡ Some s → GoesOnFrom end s → IsWrittenBehind first o (start_behind end) → HasTranscript [] first o new
-from_end first o end s new is from begun =
-    let limit = from.limit_is in
-    subst (HasTranscript [] first o) (sym is) (record {
-      keeps = from.keeps_is;
-      limit = omega (arith, limit);
-      rules = ap (λ (p : Progress). p.rules) from.stands_is ∙ sym from.rules_is;
-      written = subst (IsWrittenAfter [] first o) (sym from.stands_is) (from_start first o (start_behind end) begun);
-    })
 
 -- the transcript goes on behind the bytes, and is one alone
 abbrev pub BothBegin : List ℕ → Option Session → Type 0
@@ -217,8 +207,8 @@ resumed_written bytes verdict new (judged, inl (zero, it)) =
     let is = it.ended in (
       it.end,
       is,
-      from_end bytes is.opening it.end it.session new it.is it.goes_on (joined_start bytes it.end is),
-      from_end [] (Based (size_of is.opening) (base_of it.end.number (end_moment it.end).moment)) it.end it.session new it.is it.goes_on (own_start bytes it.end is),
+      started bytes is.opening (start_behind it.end) it.session new it.is it.starts (joined_start bytes it.end is),
+      started [] (Based (size_of is.opening) (base_of it.end.number (end_moment it.end).moment)) (start_behind it.end) it.session new it.is it.starts (own_start bytes it.end is),
     )
 resumed_written bytes verdict new (judged, inr (inl (other, damage, none))) = absurd (omega (arith, other))
 resumed_written bytes verdict new (judged, inr (inr (other, said, none))) = absurd (omega (arith, other))

@@ -1,6 +1,5 @@
 -- Sessions that go on where the run of a transcript ended.
-use Rattle.std.specs.Prelude.{◌≡◌, ◌⊎◌, ℕ, true, List, [], Option, None, Some}
-use Rattle.rule_machine.specs.declared.reply.Reply.TheVariants.{Accepted}
+use Rattle.std.specs.Prelude.{◌≡◌, ◌⊎◌, ℕ, List, [], Option, None, Some}
 use Rattle.script_text.specs.Script.{Progress, with_checkpoint}
 use Rattle.auditor.specs.declared.transcript_end.TranscriptEnd.{TranscriptEnd}
 use Rattle.auditor.specs.declared.fault.AuditFault.{AuditFault}
@@ -9,22 +8,13 @@ use Rattle.auditor.specs.AcceptedRuns.{IsAccepted}
 use Rattle.auditor.specs.Damage.{IsDamage}
 use Rattle.auditor.specs.TranscriptEnds.{IsTranscriptEnd, end_moment}
 use Rattle.rudekpi_c.specs.AuditVerdicts.{JudgedAs, accepted, damaged, unjudged}
-use Rattle.rudekpi_c.specs.Session.{stands, rules_of, limit_of}
+use Rattle.rudekpi_c.specs.Session.{IsNewSession}
 use Rattle.rudekpi_c.specs.declared.verdict.Verdict.{Verdict}
 use Rattle.rudekpi_c.specs.declared.session.Session.{Session}
 
 -- the progress at the end of a transcript's run, with the base there as text
 abbrev pub resumed : TranscriptEnd → Progress
 resumed end = with_checkpoint (record { rules = end.rules; moment = (end_moment end).moment; count = end.number; text = []; counting = None })
-
--- a session that goes on from this end, keeps its transcript and has no answer
-pub record GoesOnFrom (end : TranscriptEnd) (session : Session) : Type 0 where
-  pub stands_is : stands session ≡ resumed end
-  pub rules_is : rules_of session ≡ end.rules
-  pub limit_is : limit_of session ≡ 16777216
-  pub lines_is : session.lines ≡ 0
-  pub keeps_is : session.keeps ≡ true
-  pub answer_is : session.answer.reply ≡ Accepted
 
 -- C keeps a session that goes on from the end of the run whose transcript the bytes are, and the verdict has
 -- the transcript's counts
@@ -34,7 +24,7 @@ pub record IsResumedSession (bytes : List ℕ) (verdict : Verdict) (new : Option
   pub end : TranscriptEnd
   pub ended : IsTranscriptEnd bytes end
   pub counts : verdict ≡ accepted end.summary
-  pub goes_on : GoesOnFrom end session
+  pub starts : IsNewSession (resumed end) session
 
 -- 0: the session goes on; 7: the verdict is the damage that the bytes have; 3: memory ran out, before the bytes
 -- were judged or after the verdict accepted them. After 7 and 3 there is no session.

@@ -1,5 +1,6 @@
 -- The state of a session, and what is done to it.
 use Rattle.std.specs.Prelude.{◌≡◌, ℕ, Bool, true, false, List, [], Result}
+use Rattle.rule_machine.specs.declared.reply.Reply.TheVariants.{Accepted}
 use Rattle.rule_machine.specs.declared.rule_set.RuleSet.{RuleSet}
 use Rattle.rule_machine.specs.declared.rule_set.RuleSet.TheVariants as rules
 use Rattle.rule_machine.specs.Tables.{table_of}
@@ -36,6 +37,10 @@ limit_at (Manne run) = run.recorder.limit
 abbrev pub limit_of : Session → ℕ
 limit_of s = limit_at s.machine
 
+-- the rules and the limit have not changed
+abbrev pub HasSameRules : Machine → Machine → Type 0
+HasSameRules m n = (rules_at n ≡ rules_at m) × (limit_at n ≡ limit_at m)
+
 -- the progress with its text if a transcript is kept, else without a text
 abbrev pub with_text_if : Bool → Progress → Progress
 with_text_if true at = at
@@ -46,6 +51,15 @@ pub record GoesOn (s t : Session) : Type 0 where
   pub rules : rules_of t ≡ rules_of s
   pub limit : limit_of t ≡ limit_of s
   pub keeps : t.keeps ≡ s.keeps
+
+-- a session with this progress that was fed no line, keeps its transcript and has no answer
+pub record IsNewSession (at : Progress) (session : Session) : Type 0 where
+  pub stands_is : stands session ≡ at
+  pub rules_is : rules_of session ≡ at.rules
+  pub limit_is : limit_of session ≡ 16777216
+  pub lines_is : session.lines ≡ 0
+  pub keeps_is : session.keeps ≡ true
+  pub answer_is : session.answer.reply ≡ Accepted
 
 -- how carrying out a line ends under these rules
 abbrev pub LineEnded : RuleSet → ℕ → ℕ → List ℕ → Progress → Progress → Result Unit LineError → Type 0

@@ -1,6 +1,5 @@
 -- What C's calls do to a session, status by status.
-use Rattle.std.specs.Prelude.{◌≡◌, ◌≤◌, ◌<◌, ◌⊎◌, ◌+◌, ◌-◌, ◌^◌, ℕ, true, false, min, zero, suc, List, ◌++◌, length, drop, Option, None, Some, Result, Ok, Err}
-use Rattle.rule_machine.specs.declared.reply.Reply.TheVariants.{Accepted}
+use Rattle.std.specs.Prelude.{◌≡◌, ◌≤◌, ◌<◌, ◌⊎◌, ◌+◌, ◌-◌, ◌^◌, ℕ, false, min, zero, suc, List, ◌++◌, length, drop, Option, None, Some, Result, Ok, Err}
 use Rattle.rule_machine.specs.declared.rule_set.RuleSet.{RuleSet}
 use Rattle.rule_machine.specs.declared.rule_set.RuleSet.TheVariants.{Hh, Manne}
 use Rattle.rule_machine.specs.Tables.{table_of}
@@ -10,8 +9,9 @@ use Rattle.run_session.specs.Line.{LineBegins}
 use Rattle.step_log.specs.declared.fault.RecordFault.TheVariants.{LogFull, Memory}
 use Rattle.run_session.specs.declared.line_error.LineError.{LineError}
 use Rattle.run_session.specs.declared.line_error.LineError.TheVariants.{BadLine, Record}
-use Rattle.rudekpi_c.specs.Session.{stands, rules_of, limit_of, with_text_if, GoesOn}
+use Rattle.rudekpi_c.specs.Session.{stands, stands_at, rules_of, limit_of, with_text_if, GoesOn, HasSameRules, IsNewSession}
 use Rattle.rudekpi_c.specs.SilentDrives.{LineSilences}
+use Rattle.rudekpi_c.specs.declared.session.Machine.{Machine}
 use Rattle.rudekpi_c.specs.declared.session.Session.{Session}
 
 -- 0 means the rules of Hsu and Huang, any other number those of Manne and others
@@ -25,23 +25,16 @@ IsWanted rules nodes present = (rules ≤ 1) × (nodes ≤ 65535) × (present �
 
 -- C keeps this session from now on; its text is dropped if the session keeps no transcript
 pub record IsPutBack (s : Session) (new : Option Session) : Type 0 where
-  pub t : Session
-  pub is : new ≡ Some t
-  pub goes_on : GoesOn s t
-  pub lines_is : t.lines ≡ s.lines
-  pub answer_is : t.answer ≡ s.answer
-  pub stands_is : stands t ≡ with_text_if t.keeps (stands s)
+  pub machine : Machine
+  pub is : new ≡ Some (record s { machine = machine })
+  pub same : HasSameRules s.machine machine
+  pub stands_is : stands_at machine ≡ with_text_if s.keeps (stands s)
 
--- a session at the beginning of a run, which keeps its transcript and has no answer
+-- a session at the beginning of a run
 pub record IsFreshSession (rules nodes present : ℕ) (new : Option Session) : Type 0 where
   pub session : Session
   pub is : new ≡ Some session
-  pub stands_is : stands session ≡ first_progress (named rules) nodes present
-  pub rules_is : rules_of session ≡ named rules
-  pub limit_is : limit_of session ≡ 16777216
-  pub lines_is : session.lines ≡ 0
-  pub keeps_is : session.keeps ≡ true
-  pub answer_is : session.answer.reply ≡ Accepted
+  pub starts : IsNewSession (first_progress (named rules) nodes present) session
 
 -- 0: the session began; 3: memory ran out; 5: an argument is out of range; after 3 and 5 there is no session
 abbrev pub OpensSession : ℕ → ℕ → ℕ → ℕ → Option Session → Type 0

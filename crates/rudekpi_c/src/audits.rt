@@ -4,7 +4,7 @@ ghost use Rattle.std.specs.Prelude.{◌≡◌, None};
 ghost use Rattle.rudekpi_c.specs.AuditCalls.{AuditBegun, AuditEnded, AuditFed, found_status};
 
 use crate::audit_slot::AuditSlot;
-use crate::status::{DAMAGED, DONE, MEMORY, NO_SESSION};
+use crate::status::{DAMAGED, DONE, MEMORY, NO_SESSION, ok_or, some_or};
 use crate::verdict::{Verdict, told, unsaid};
 use auditor::{AuditFault, PieceAudit};
 use std::alloc::Global;
@@ -17,9 +17,7 @@ pub extern "C" fn rudekpi_audit_new(alloc: Global, slot: &mut AuditSlot) -> u32
     ensures { AuditBegun result slot.new.handle.value }
 {
     drop(slot.take(alloc));
-    let Ok(audit) = Box::new(alloc, PieceAudit::new(alloc)) else {
-        return MEMORY;
-    };
+    let audit = ok_or!(Box::new(alloc, PieceAudit::new(alloc)), MEMORY);
     slot.put(audit);
     DONE
 }
@@ -32,9 +30,7 @@ pub extern "C" fn rudekpi_audit_new(alloc: Global, slot: &mut AuditSlot) -> u32
 pub extern "C" fn rudekpi_audit_feed(alloc: Global, slot: &mut AuditSlot, piece: &[u8]) -> u32
     ensures { AuditFed piece.now result slot.old.handle.value slot.new.handle.value }
 {
-    let Some(mut audit) = slot.take(alloc) else {
-        return NO_SESSION;
-    };
+    let mut audit = some_or!(slot.take(alloc), NO_SESSION);
     let found = audit.feed(alloc, piece);
     slot.put(audit);
     status_of(found)
@@ -51,9 +47,7 @@ pub extern "C" fn rudekpi_audit_finish(
     ensures left { slot.new.handle.value ≡ None }
 {
     *verdict = unsaid();
-    let Some(audit) = slot.take(alloc) else {
-        return NO_SESSION;
-    };
+    let audit = some_or!(slot.take(alloc), NO_SESSION);
     *verdict = told(Box::into_inner(audit).finish(alloc));
     DONE
 }

@@ -1,7 +1,8 @@
 //! The answer to a command, for C.
 
-ghost use Rattle.std.specs.Prelude.{◌≡◌, ◌≤◌, ◌++◌, ◌<◌, length, drop};
-ghost use Rattle.rudekpi_c.specs.ReplyNumbers.{told_of, untold, number_of, refusal_code, target_in, rows_of};
+ghost use Rattle.std.specs.Prelude.{◌≡◌, length};
+ghost use Rattle.rudekpi_c.specs.StateViews.{ArePutRows};
+ghost use Rattle.rudekpi_c.specs.ReplyNumbers.{told_of, untold, number_of, rows_of};
 
 use crate::row::{Row, put_rows};
 use rule_machine::{Node, Reply};
@@ -34,12 +35,23 @@ impl CallResult {
     pub(crate) fn of(answer: &Answer) -> CallResult
         ensures { result ≡ told_of answer.now.seq answer.now.reply }
     {
-        let reply = &answer.reply;
-        CallResult {
+        let told = CallResult {
             entry: answer.seq,
-            refusal: refusal_told(reply),
-            target: target_told(reply),
-            rows: count_rows(reply),
+            ..CallResult::nothing()
+        };
+        match &answer.reply {
+            Reply::Refused(refusal) => CallResult {
+                refusal: refusal.number(),
+                ..told
+            },
+            Reply::Shown(target) => CallResult {
+                target: number_told(*target),
+                ..told
+            },
+            reply => CallResult {
+                rows: count_rows(reply),
+                ..told
+            },
         }
     }
 }
@@ -54,25 +66,7 @@ pub(crate) fn number_told(node: Option<Node>) -> u32
     }
 }
 
-fn refusal_told(reply: &Reply) -> u32
-    ensures { result ≡ refusal_code reply.now }
-{
-    match reply {
-        Reply::Refused(refusal) => refusal.number(),
-        _ => 0,
-    }
-}
-
-fn target_told(reply: &Reply) -> u32
-    ensures { result ≡ target_in reply.now }
-{
-    match reply {
-        Reply::Shown(target) => number_told(*target),
-        _ => 0,
-    }
-}
-
-pub(crate) fn count_rows(reply: &Reply) -> usize
+fn count_rows(reply: &Reply) -> usize
     ensures { result ≡ length (rows_of reply.now) }
 {
     match reply {
@@ -83,14 +77,15 @@ pub(crate) fn count_rows(reply: &Reply) -> usize
     }
 }
 
-pub(crate) fn write_rows(out: &mut [Row], reply: &Reply)
-    requires { length (rows_of reply.now) ≤ length out.old }
-    ensures { out.new ≡ rows_of reply.now ++ drop (length (rows_of reply.now)) out.old }
+/// Copies the reply's rows if all fit; returns how many there are.
+pub(crate) fn write_rows(out: &mut [Row], reply: &Reply) -> usize
+    ensures count { result ≡ length (rows_of reply.now) }
+    ensures put { ArePutRows (rows_of reply.now) out.old out.new }
 {
     match reply {
         Reply::Moves(moves) => put_rows(out, moves.as_slice()),
         Reply::EnabledAre(nodes) => put_rows(out, nodes.as_slice()),
         Reply::Pairs(pairs) => put_rows(out, pairs.as_slice()),
-        _ => {}
+        _ => 0,
     }
 }

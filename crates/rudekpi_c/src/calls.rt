@@ -10,9 +10,10 @@ ghost use Rattle.rudekpi_c.specs.CommandCalls.{AnswersCommand, command_status, o
 ghost use Rattle.rudekpi_c.specs.CountCalls.{AnswersCounts};
 
 use crate::call_result::CallResult;
+use crate::follow::unanswered;
 use crate::request::{self, StepItem};
 use crate::slot::Slot;
-use crate::status::{BAD_ARGUMENT, DONE, LOG_FULL, MEMORY, NO_SESSION, REFUSED};
+use crate::status::{BAD_ARGUMENT, DONE, LOG_FULL, MEMORY, NO_SESSION, REFUSED, some_or};
 use crate::status_counts::{StatusCounts, counted_of};
 use rule_machine::{Event, Reply};
 use script_text::Command;
@@ -35,12 +36,8 @@ fn call(alloc: Global, slot: &mut Slot, command: Option<Command>, told: &mut Cal
     ensures { (asked : Command) → SomeIff command (IsCommand asked) asked → AnswersCommand asked result told.new slot.old.handle.value slot.new.handle.value }
 {
     *told = CallResult::nothing();
-    let Some(command) = command else {
-        return BAD_ARGUMENT;
-    };
-    let Some(mut session) = slot.take(alloc) else {
-        return NO_SESSION;
-    };
+    let command = some_or!(command, BAD_ARGUMENT);
+    let mut session = some_or!(slot.take(alloc), NO_SESSION);
     let done = session.follow(alloc, &command);
     let status = status_of(done, &session.answer.reply);
     *told = CallResult::of(&session.answer);
@@ -53,10 +50,8 @@ fn fail_memory(alloc: Global, slot: &mut Slot, told: &mut CallResult) -> u32
     ensures { (event : Event) → IsCommand (Tell event) → AnswersCommand (Tell event) result told.new slot.old.handle.value slot.new.handle.value }
 {
     *told = CallResult::nothing();
-    let Some(mut session) = slot.take(alloc) else {
-        return NO_SESSION;
-    };
-    session.forget_answer();
+    let mut session = some_or!(slot.take(alloc), NO_SESSION);
+    session.answer = unanswered(0);
     slot.put_back(session);
     MEMORY
 }

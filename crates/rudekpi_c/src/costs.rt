@@ -10,7 +10,7 @@ ghost use Rattle.rudekpi_c.specs.CostCalls.{AnswersCost};
 
 use crate::request;
 use crate::slot::Slot;
-use crate::status::{BAD_ARGUMENT, DONE, NO_SESSION};
+use crate::status::{BAD_ARGUMENT, DONE, NO_SESSION, some_or};
 use script_text::Command;
 use std::alloc::Global;
 
@@ -23,9 +23,7 @@ fn cost_of(alloc: Global, slot: &mut Slot, asked: Option<Command>, cost: &mut u3
     let Some(Command::Tell(event)) = asked else {
         return BAD_ARGUMENT;
     };
-    let Some(session) = slot.take(alloc) else {
-        return NO_SESSION;
-    };
+    let session = some_or!(slot.take(alloc), NO_SESSION);
     *cost = session.cost_of(&event);
     slot.put(session);
     DONE

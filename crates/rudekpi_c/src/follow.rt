@@ -8,6 +8,7 @@ ghost use Rattle.script_text.specs.declared.command.Command.TheVariants.{Tell, C
 ghost use Rattle.rudekpi_c.specs.CommandCalls.{number_at, reply_kept};
 ghost use Rattle.rudekpi_c.specs.SilentDrives.{Silences};
 
+use crate::status::some_or;
 use registers::Registers;
 use rule_machine::{Event, Node, Reply, Rules};
 use run_session::Run;
@@ -45,13 +46,6 @@ pub(crate) fn unanswered(seq: u32) -> Answer
     }
 }
 
-fn left<R: Rules>(run: &Run<R>) -> Answer
-    ensures number { result.seq ≡ run.now.recorder.len }
-    ensures reply { result.reply ≡ Accepted }
-{
-    unanswered(run.recorder.len())
-}
-
 pub(crate) fn follow<R: Rules>(
     run: &mut Run<R>,
     alloc: Global,
@@ -68,27 +62,20 @@ pub(crate) fn follow<R: Rules>(
         Command::Tell(event) => tell(run, event, answer),
         Command::Drive(turns) => {
             let done = run.drive(alloc, *turns);
-            *answer = left(run);
+            *answer = unanswered(run.recorder.len());
             done
         }
         Command::Scramble(turns) => {
             let done = run.scramble(*turns);
-            *answer = left(run);
+            *answer = unanswered(run.recorder.len());
             done
         }
         Command::Checkpoint => {
-            let done = checkpoint(run);
-            *answer = left(run);
-            done
+            let done = run.checkpoint();
+            *answer = unanswered(run.recorder.len());
+            Ok(done?)
         }
     }
-}
-
-fn checkpoint<R: Rules>(run: &mut Run<R>) -> Result<(), RecordFault>
-    ensures ends { CommandEnds R.table run.old.recorder.limit Checkpoint (progress_of run.old) (progress_of run.new) result }
-    ensures limit { run.new.recorder.limit ≡ run.old.recorder.limit }
-{
-    Ok(run.checkpoint()?)
 }
 
 /// A node's pointer; `None` for a name above the capacity.
@@ -105,9 +92,7 @@ pub(crate) fn partner<R: Rules>(run: &Run<R>, v: Node) -> Option<Node>
     ensures { result ≡ partner run.now.recorder.state v }
 {
     let registers = run.recorder.net().registers();
-    let Some(w) = pointer(registers, v) else {
-        return None;
-    };
+    let w = some_or!(pointer(registers, v), None);
     if registers.points_at(w, v) {
         return Some(w);
     }

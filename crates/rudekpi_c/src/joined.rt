@@ -3,7 +3,7 @@
 ghost use Rattle.std.specs.Prelude.{◌≡◌, ◌≤◌, MatchOption};
 ghost use Rattle.rudekpi_c.specs.JoinCalls.{AuditJoined, said_by};
 
-use crate::status::{BAD_ARGUMENT, DONE};
+use crate::status::{BAD_ARGUMENT, DONE, some_or};
 use crate::verdict::{Verdict, told};
 use audit_parts::join;
 use auditor::{AuditFault, Summary};
@@ -46,12 +46,9 @@ fn found_in(verdict: Verdict) -> Option<Result<Summary, AuditFault>>
 pub extern "C" fn rudekpi_audit_join(verdict: &mut Verdict, lines: u64, next: &Verdict) -> u32
     ensures { AuditJoined lines result verdict.old next.now verdict.new }
 {
-    let (Some(first), Some(second)) = (found_in(*verdict), found_in(*next)) else {
-        return BAD_ARGUMENT;
-    };
-    let Some(both) = join(first, lines, second) else {
-        return BAD_ARGUMENT;
-    };
+    let first = some_or!(found_in(*verdict), BAD_ARGUMENT);
+    let second = some_or!(found_in(*next), BAD_ARGUMENT);
+    let both = some_or!(join(first, lines, second), BAD_ARGUMENT);
     *verdict = told(both);
     DONE
 }

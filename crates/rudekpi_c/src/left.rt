@@ -4,7 +4,7 @@ ghost use Rattle.std.specs.Prelude.{◌≡◌};
 ghost use Rattle.rudekpi_c.specs.MovesLeftCalls.{AnswersMovesLeft};
 
 use crate::slot::Slot;
-use crate::status::{DONE, NO_SESSION};
+use crate::status::{DONE, NO_SESSION, some_or};
 use std::alloc::Global;
 
 /// Writes a bound on the moves that can still come before the next accepted edit or fault: 0 in silence.
@@ -16,9 +16,7 @@ pub extern "C" fn rudekpi_moves_left(alloc: Global, slot: &mut Slot, moves: &mut
     ensures kept { slot.new.handle.value ≡ slot.old.handle.value }
 {
     *moves = 0;
-    let Some(mut session) = slot.take(alloc) else {
-        return NO_SESSION;
-    };
+    let mut session = some_or!(slot.take(alloc), NO_SESSION);
     *moves = session.moves_left();
     slot.put(session);
     DONE

@@ -2,12 +2,11 @@
 
 ghost use Rattle.std.specs.Prelude.{◌≡◌, ◌↔◌, ◌≤◌, IsTrue, SomeIff};
 ghost use Rattle.std.specs.List.{AllByRecursion};
-ghost use Rattle.rudekpi_c.specs.ReplyNumbers.{number_of, rule_number};
 ghost use Rattle.rudekpi_c.specs.LocalCalls.{AreNames, AnswersLocal, AnswersMayMove, nearest_name, nearest_record, pointer_named, rule_named, rules_given, move_told, fault_told, fault_status, faulty};
 
 use crate::call_result::number_told;
 use crate::row::rule_told;
-use crate::status::{BAD_ARGUMENT, DONE, NOT_SHOWN};
+use crate::status::{BAD_ARGUMENT, DONE, NOT_SHOWN, some_or};
 use local_rule::{AsRecord, LocalMove, ViewFault, local_rule_of, may_move_of};
 use rule_machine::{Act, MAX_NAME, Node, NodeRecord, RuleSet};
 
@@ -91,20 +90,16 @@ fn move_told(own: &RawRecord, answer: Option<LocalMove>) -> LocalAnswer
 {
     match answer {
         None => LocalAnswer {
-            rule: 0,
-            target: 0,
             pointer: own.pointer,
             flag: own.flag,
-            fault: 0,
-            at: 0,
+            ..faulty(0, 0)
         },
         Some(made) => LocalAnswer {
             rule: rule_told(made.act),
             target: number_told(made.target),
             pointer: number_told(made.pointer),
             flag: made.flag,
-            fault: 0,
-            at: 0,
+            ..faulty(0, 0)
         },
     }
 }
@@ -132,11 +127,8 @@ fn fault_told(own: &RawRecord, fault: &ViewFault) -> LocalAnswer
         ViewFault::PointsAtItself(w) => faulty(3, w.name()),
         ViewFault::PointsAtStranger(w) => LocalAnswer {
             rule: 5,
-            target: 0,
-            pointer: 0,
             flag: own.flag,
-            fault: 4,
-            at: w.name(),
+            ..faulty(4, w.name())
         },
     }
 }
@@ -163,9 +155,7 @@ pub extern "C" fn rudekpi_local_rule(
     ensures { AnswersLocal rules own.now around.now result answer.new }
 {
     *answer = faulty(0, 0);
-    let Some(set) = rules_given(rules) else {
-        return BAD_ARGUMENT;
-    };
+    let set = some_or!(rules_given(rules), BAD_ARGUMENT);
     if !is_named(own) || !are_named(around) {
         return BAD_ARGUMENT;
     }
@@ -217,15 +207,9 @@ pub extern "C" fn rudekpi_may_move(
     ensures { AnswersMayMove rules own.now around.now rule target result may.new }
 {
     *may = false;
-    let Some(set) = rules_given(rules) else {
-        return BAD_ARGUMENT;
-    };
-    let Some(act) = rule_given(rule) else {
-        return BAD_ARGUMENT;
-    };
-    let Some(wish) = target_given(target) else {
-        return BAD_ARGUMENT;
-    };
+    let set = some_or!(rules_given(rules), BAD_ARGUMENT);
+    let act = some_or!(rule_given(rule), BAD_ARGUMENT);
+    let wish = some_or!(target_given(target), BAD_ARGUMENT);
     if !is_named(own) || !are_named(around) {
         return BAD_ARGUMENT;
     }

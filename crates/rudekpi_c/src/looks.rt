@@ -3,10 +3,10 @@
 ghost use Rattle.std.specs.Prelude.{◌≡◌, ◌≤◌, ◌<◌, ◌++◌, length, drop};
 ghost use Rattle.rudekpi_c.specs.SessionQuestions.{AnswersKeep, AnswersPartner, rows_kept};
 
-use crate::call_result::{count_rows, number_told, write_rows};
+use crate::call_result::{number_told, write_rows};
 use crate::row::Row;
 use crate::slot::Slot;
-use crate::status::{BAD_ARGUMENT, DONE, NO_SESSION};
+use crate::status::{BAD_ARGUMENT, DONE, NO_SESSION, some_or};
 use rule_machine::Node;
 use std::alloc::Global;
 
@@ -18,15 +18,8 @@ pub extern "C" fn rudekpi_rows(alloc: Global, slot: &mut Slot, out: &mut [Row]) 
     ensures none { length out.old < result → out.new ≡ out.old }
     ensures kept { slot.new.handle.value ≡ slot.old.handle.value }
 {
-    let Some(session) = slot.take(alloc) else {
-        return 0;
-    };
-    let count = count_rows(&session.answer.reply);
-    if count > out.len() {
-        slot.put(session);
-        return count;
-    }
-    write_rows(out, &session.answer.reply);
+    let session = some_or!(slot.take(alloc), 0);
+    let count = write_rows(out, &session.answer.reply);
     slot.put(session);
     count
 }
@@ -38,10 +31,8 @@ pub extern "C" fn rudekpi_rows(alloc: Global, slot: &mut Slot, out: &mut [Row]) 
 pub extern "C" fn rudekpi_transcript(alloc: Global, slot: &mut Slot, keeps: bool) -> u32
     ensures { AnswersKeep keeps result slot.old.handle.value slot.new.handle.value }
 {
-    let Some(mut session) = slot.take(alloc) else {
-        return NO_SESSION;
-    };
-    session.keep(keeps);
+    let mut session = some_or!(slot.take(alloc), NO_SESSION);
+    session.keeps = keeps;
     slot.put_back(session);
     DONE
 }
@@ -60,12 +51,8 @@ pub extern "C" fn rudekpi_partner(
     ensures kept { slot.new.handle.value ≡ slot.old.handle.value }
 {
     *partner = 0;
-    let Some(node) = Node::new(node) else {
-        return BAD_ARGUMENT;
-    };
-    let Some(session) = slot.take(alloc) else {
-        return NO_SESSION;
-    };
+    let node = some_or!(Node::new(node), BAD_ARGUMENT);
+    let session = some_or!(slot.take(alloc), NO_SESSION);
     *partner = number_told(session.partner(node));
     slot.put(session);
     DONE

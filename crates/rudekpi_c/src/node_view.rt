@@ -1,18 +1,16 @@
 //! Registers, neighbours, nodes, edges, and the nodes not at rest. Asking makes no entry.
 
-ghost use Rattle.std.specs.Prelude.{◌≡◌, ◌≤◌, ◌<◌, ◌++◌, IfOk, length, drop, filter, map, not};
+ghost use Rattle.std.specs.Prelude.{◌≡◌, IfOk, filter, not};
 ghost use Rattle.containment_laws.specs.Rest.{is_at_rest};
 ghost use Rattle.rule_machine.specs.Network.{names, neighbours, edge_list};
-ghost use Rattle.rudekpi_c.specs.ReachCalls.{ArePut};
-ghost use Rattle.rudekpi_c.specs.ReplyNumbers.{pair_row};
-ghost use Rattle.rudekpi_c.specs.StateViews.{node_view, no_view, state_at, network_at, restless_at, ArePutRows, AnswersRegisters, AnswersNeighbours, AnswersNodes, AnswersRestless, AnswersEdges};
+ghost use Rattle.rudekpi_c.specs.StateViews.{node_view, no_view, state_at, network_at, restless_at, AnswersRegisters, AnswersNeighbours, AnswersNodes, AnswersRestless, AnswersEdges};
 
 use crate::call_result::number_told;
 use crate::reach::put_names;
 use crate::row::{Row, put_rows};
-use crate::session::{Machine, Session};
+use crate::session::{Machine, Session, with_run};
 use crate::slot::Slot;
-use crate::status::{BAD_ARGUMENT, DONE, MEMORY, NO_SESSION};
+use crate::status::{BAD_ARGUMENT, DONE, MEMORY, NO_SESSION, ok_or, some_or};
 use rule_machine::{Edge, Node, Rules, Want};
 use run_session::Run;
 use std::alloc::Global;
@@ -93,80 +91,37 @@ fn restless<R: Rules>(run: &Run<R>, alloc: Global, nodes: &[Node]) -> Result<Vec
     Ok(list)
 }
 
-fn edges<R: Rules>(run: &Run<R>) -> Result<Vec<Edge>, Want>
-    ensures { IfOk result (λ list. list.items ≡ edge_list run.now.recorder.state.network) }
-{
-    run.recorder.net().store().list()
-}
-
 impl Session {
     fn node_view(&self, v: Node) -> NodeView
         ensures { result ≡ node_view (state_at self.now) v }
     {
-        match &self.machine {
-            Machine::Hh(run) => node_view(run, v),
-            Machine::Manne(run) => node_view(run, v),
-        }
+        with_run!(&self.machine, run => node_view(run, v))
     }
 
     fn neighbours(&self, v: Node) -> &[Node]
         ensures { result.now ≡ neighbours (network_at self.now) v }
     {
-        match &self.machine {
-            Machine::Hh(run) => neighbours(run, v),
-            Machine::Manne(run) => neighbours(run, v),
-        }
+        with_run!(&self.machine, run => neighbours(run, v))
     }
 
     fn nodes(&self, alloc: Global) -> Result<Vec<Node>, Want>
         ensures { IfOk result (λ list. list.items ≡ names (network_at self.now)) }
     {
-        match &self.machine {
-            Machine::Hh(run) => nodes(run, alloc),
-            Machine::Manne(run) => nodes(run, alloc),
-        }
+        with_run!(&self.machine, run => nodes(run, alloc))
     }
 
     fn restless(&self, alloc: Global) -> Result<Vec<Node>, Want>
         ensures { IfOk result (λ list. list.items ≡ restless_at self.now) }
     {
         let nodes = self.nodes(alloc)?;
-        match &self.machine {
-            Machine::Hh(run) => restless(run, alloc, &nodes),
-            Machine::Manne(run) => restless(run, alloc, &nodes),
-        }
+        with_run!(&self.machine, run => restless(run, alloc, &nodes))
     }
 
     fn edges(&self) -> Result<Vec<Edge>, Want>
         ensures { IfOk result (λ list. list.items ≡ edge_list (network_at self.now)) }
     {
-        match &self.machine {
-            Machine::Hh(run) => edges(run),
-            Machine::Manne(run) => edges(run),
-        }
+        with_run!(&self.machine, run => run.recorder.net().store().list())
     }
-}
-
-/// Copies the names if all fit; returns how many there are.
-fn put_list(out: &mut [u32], nodes: &[Node]) -> usize
-    ensures count { result ≡ length nodes.now }
-    ensures put { ArePut nodes.now out.old out.new }
-{
-    if nodes.len() <= out.len() {
-        put_names(out, nodes);
-    }
-    nodes.len()
-}
-
-/// Copies the edges' rows if all fit; returns how many there are.
-fn put_edges(out: &mut [Row], edges: &[Edge]) -> usize
-    ensures count { result ≡ length (map pair_row edges.now) }
-    ensures put { ArePutRows (map pair_row edges.now) out.old out.new }
-{
-    if edges.len() <= out.len() {
-        put_rows(out, edges);
-    }
-    edges.len()
 }
 
 /// Writes a node's pointer, or 0 for null, its flag, and whether the node is present.
@@ -184,12 +139,8 @@ pub extern "C" fn rudekpi_registers(
     ensures kept { slot.new.handle.value ≡ slot.old.handle.value }
 {
     *view = NodeView::none();
-    let Some(node) = Node::new(node) else {
-        return BAD_ARGUMENT;
-    };
-    let Some(session) = slot.take(alloc) else {
-        return NO_SESSION;
-    };
+    let node = some_or!(Node::new(node), BAD_ARGUMENT);
+    let session = some_or!(slot.take(alloc), NO_SESSION);
     *view = session.node_view(node);
     slot.put(session);
     DONE
@@ -211,13 +162,9 @@ pub extern "C" fn rudekpi_neighbours(
     ensures kept { slot.new.handle.value ≡ slot.old.handle.value }
 {
     *count = 0;
-    let Some(node) = Node::new(node) else {
-        return BAD_ARGUMENT;
-    };
-    let Some(session) = slot.take(alloc) else {
-        return NO_SESSION;
-    };
-    *count = put_list(out, session.neighbours(node));
+    let node = some_or!(Node::new(node), BAD_ARGUMENT);
+    let session = some_or!(slot.take(alloc), NO_SESSION);
+    *count = put_names(out, session.neighbours(node));
     slot.put(session);
     DONE
 }
@@ -237,15 +184,11 @@ pub extern "C" fn rudekpi_nodes(
     ensures kept { slot.new.handle.value ≡ slot.old.handle.value }
 {
     *count = 0;
-    let Some(session) = slot.take(alloc) else {
-        return NO_SESSION;
-    };
+    let session = some_or!(slot.take(alloc), NO_SESSION);
     let list = session.nodes(alloc);
     slot.put(session);
-    let Ok(nodes) = list else {
-        return MEMORY;
-    };
-    *count = put_list(out, &nodes);
+    let nodes = ok_or!(list, MEMORY);
+    *count = put_names(out, &nodes);
     DONE
 }
 
@@ -263,15 +206,11 @@ pub extern "C" fn rudekpi_restless(
     ensures kept { slot.new.handle.value ≡ slot.old.handle.value }
 {
     *count = 0;
-    let Some(session) = slot.take(alloc) else {
-        return NO_SESSION;
-    };
+    let session = some_or!(slot.take(alloc), NO_SESSION);
     let list = session.restless(alloc);
     slot.put(session);
-    let Ok(nodes) = list else {
-        return MEMORY;
-    };
-    *count = put_list(out, &nodes);
+    let nodes = ok_or!(list, MEMORY);
+    *count = put_names(out, &nodes);
     DONE
 }
 
@@ -290,14 +229,10 @@ pub extern "C" fn rudekpi_edges(
     ensures kept { slot.new.handle.value ≡ slot.old.handle.value }
 {
     *count = 0;
-    let Some(session) = slot.take(alloc) else {
-        return NO_SESSION;
-    };
+    let session = some_or!(slot.take(alloc), NO_SESSION);
     let list = session.edges();
     slot.put(session);
-    let Ok(edges) = list else {
-        return MEMORY;
-    };
-    *count = put_edges(out, &edges);
+    let edges = ok_or!(list, MEMORY);
+    *count = put_rows(out, &edges);
     DONE
 }

@@ -1,6 +1,6 @@
 //! The nodes at rest, and the nodes that edits and faults would reach. Asking makes no entry.
 
-ghost use Rattle.std.specs.Prelude.{◌≡◌, ◌≤◌, ◌++◌, SomeIff, IfOk, IsTrue, length, drop};
+ghost use Rattle.std.specs.Prelude.{◌≡◌, SomeIff, IfOk, IsTrue, length};
 ghost use Rattle.containment_laws.specs.Rest.{is_at_rest};
 ghost use Rattle.rule_machine.specs.State.{IsState};
 ghost use Rattle.rule_machine.specs.Tables.{table_of};
@@ -10,13 +10,13 @@ ghost use Rattle.script_text.specs.declared.command.Command.TheVariants.{Tell};
 ghost use Rattle.script_text.specs.Command.{IsCommand};
 ghost use Rattle.rudekpi_c.specs.CommandCalls.{optional_name};
 ghost use Rattle.rule_engine.specs.DisturbanceReach.{StaysAtRest};
-ghost use Rattle.rudekpi_c.specs.ReachCalls.{rests_at, reach_at, AnswersRest, AnswersReach};
+ghost use Rattle.rudekpi_c.specs.ReachCalls.{rests_at, reach_at, ArePut, AnswersRest, AnswersReach};
 ghost use Rattle.rudekpi_c.specs.Session.{stands, rules_of};
 
 use crate::request;
-use crate::session::{Machine, Session};
+use crate::session::{Machine, Session, with_run};
 use crate::slot::Slot;
-use crate::status::{BAD_ARGUMENT, DONE, MEMORY, NO_SESSION};
+use crate::status::{BAD_ARGUMENT, DONE, MEMORY, NO_SESSION, ok_or, some_or};
 use rule_machine::{Event, Node, Rules, Want};
 use run_session::Run;
 use script_text::Command;
@@ -37,29 +37,28 @@ impl Session {
         ensures rests { result ≡ rests_at self.now v }
         ensures stays { IsTrue result → StaysAtRest (table_of (rules_of self.now)) (stands self.now).moment v }
     {
-        match &self.machine {
-            Machine::Hh(run) => rests(run, v),
-            Machine::Manne(run) => rests(run, v),
-        }
+        with_run!(&self.machine, run => rests(run, v))
     }
 
     pub(crate) fn reach_of(&self, event: &Event) -> Result<Vec<Node>, Want>
         ensures { IfOk result (λ list. list.items ≡ reach_at self.now event.now) }
     {
-        match &self.machine {
-            Machine::Hh(run) => run.recorder.net().reach_of(event),
-            Machine::Manne(run) => run.recorder.net().reach_of(event),
-        }
+        with_run!(&self.machine, run => run.recorder.net().reach_of(event))
     }
 }
 
-pub(crate) fn put_names(out: &mut [u32], nodes: &[Node])
-    requires { length nodes.now ≤ length out.old }
-    ensures { out.new ≡ nodes.now ++ drop (length nodes.now) out.old }
+/// Copies the names if all fit; returns how many there are.
+pub(crate) fn put_names(out: &mut [u32], nodes: &[Node]) -> usize
+    ensures count { result ≡ length nodes.now }
+    ensures put { ArePut nodes.now out.old out.new }
 {
+    if nodes.len() > out.len() {
+        return nodes.len();
+    }
     for at in 0..nodes.len() {
         out[at] = nodes[at].name();
     }
+    nodes.len()
 }
 
 // Returns 5 if there is no event: a number is out of range.
@@ -77,18 +76,11 @@ fn reach_of(
     let Some(Command::Tell(event)) = asked else {
         return BAD_ARGUMENT;
     };
-    let Some(session) = slot.take(alloc) else {
-        return NO_SESSION;
-    };
+    let session = some_or!(slot.take(alloc), NO_SESSION);
     let reach = session.reach_of(&event);
     slot.put(session);
-    let Ok(nodes) = reach else {
-        return MEMORY;
-    };
-    *count = nodes.len();
-    if nodes.len() <= out.len() {
-        put_names(out, &nodes);
-    }
+    let nodes = ok_or!(reach, MEMORY);
+    *count = put_names(out, &nodes);
     DONE
 }
 
@@ -107,12 +99,8 @@ pub extern "C" fn rudekpi_is_at_rest(
     ensures kept { slot.new.handle.value ≡ slot.old.handle.value }
 {
     *rests = false;
-    let Some(node) = Node::new(node) else {
-        return BAD_ARGUMENT;
-    };
-    let Some(session) = slot.take(alloc) else {
-        return NO_SESSION;
-    };
+    let node = some_or!(Node::new(node), BAD_ARGUMENT);
+    let session = some_or!(slot.take(alloc), NO_SESSION);
     *rests = session.is_at_rest(node);
     slot.put(session);
     DONE

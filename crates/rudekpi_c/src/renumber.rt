@@ -3,12 +3,12 @@
 ghost use Rattle.std.specs.Prelude.{◌≡◌, IfOk, OnErr, OnOk, length};
 ghost use Rattle.run_session.specs.Line.{progress_of};
 ghost use Rattle.script_text.specs.Script.{with_checkpoint};
-ghost use Rattle.rudekpi_c.specs.Renumbering.{renumbered, ended_length, length_if, AnswersRenumber};
-ghost use Rattle.rudekpi_c.specs.Session.{stands, rules_of, limit_of};
+ghost use Rattle.rudekpi_c.specs.Renumbering.{renumbered, length_if, AnswersRenumber};
+ghost use Rattle.rudekpi_c.specs.Session.{stands_at, HasSameRules};
 
-use crate::session::{Machine, Session};
+use crate::session::{Machine, with_run};
 use crate::slot::Slot;
-use crate::status::{DONE, MEMORY, NO_SESSION};
+use crate::status::{DONE, MEMORY, NO_SESSION, ok_or, some_or};
 use line_text::put_base;
 use rule_machine::{Rules, Want};
 use run_session::Run;
@@ -34,21 +34,14 @@ fn renumber<R: Rules>(run: &mut Run<R>) -> Result<usize, Want>
     Ok(ended)
 }
 
-impl Session {
+impl Machine {
     fn renumber(&mut self) -> Result<usize, Want>
-        ensures ok { OnOk result (stands self.new ≡ renumbered (stands self.old)) }
-        ensures ended { IfOk result (λ ended. ended ≡ length (with_checkpoint (stands self.old)).text) }
-        ensures err { OnErr result (stands self.new ≡ stands self.old) }
-        ensures rules { rules_of self.new ≡ rules_of self.old }
-        ensures limit { limit_of self.new ≡ limit_of self.old }
-        ensures lines { self.new.lines ≡ self.old.lines }
-        ensures keeps { self.new.keeps ≡ self.old.keeps }
-        ensures answer { self.new.answer ≡ self.old.answer }
+        ensures ok { OnOk result (stands_at self.new ≡ renumbered (stands_at self.old)) }
+        ensures ended { IfOk result (λ ended. ended ≡ length (with_checkpoint (stands_at self.old)).text) }
+        ensures err { OnErr result (stands_at self.new ≡ stands_at self.old) }
+        ensures same { HasSameRules self.old self.new }
     {
-        match &mut self.machine {
-            Machine::Hh(run) => renumber(run),
-            Machine::Manne(run) => renumber(run),
-        }
+        with_run!(self, run => renumber(run))
     }
 }
 
@@ -69,15 +62,11 @@ pub extern "C" fn rudekpi_session_renumber(alloc: Global, slot: &mut Slot, ended
     ensures { AnswersRenumber result ended.new slot.old.handle.value slot.new.handle.value }
 {
     *ended = 0;
-    let Some(mut session) = slot.take(alloc) else {
-        return NO_SESSION;
-    };
-    let done = session.renumber();
+    let mut session = some_or!(slot.take(alloc), NO_SESSION);
+    let done = session.machine.renumber();
     let keeps = session.keeps;
     slot.put_back(session);
-    let Ok(length) = done else {
-        return MEMORY;
-    };
+    let length = ok_or!(done, MEMORY);
     *ended = length_if(keeps, length);
     DONE
 }

@@ -24,19 +24,13 @@ pub struct StepItem {
 pub(crate) fn link(a: u32, b: u32) -> Option<Command>
     ensures { SomeIff result (IsCommand (Tell (Link a b))) (Tell (Link a b)) }
 {
-    let (Some(a), Some(b)) = (Node::new(a), Node::new(b)) else {
-        return None;
-    };
-    Some(Command::Tell(Event::Link(a, b)))
+    Some(Command::Tell(Event::Link(Node::new(a)?, Node::new(b)?)))
 }
 
 pub(crate) fn unlink(a: u32, b: u32) -> Option<Command>
     ensures { SomeIff result (IsCommand (Tell (Unlink a b))) (Tell (Unlink a b)) }
 {
-    let (Some(a), Some(b)) = (Node::new(a), Node::new(b)) else {
-        return None;
-    };
-    Some(Command::Tell(Event::Unlink(a, b)))
+    Some(Command::Tell(Event::Unlink(Node::new(a)?, Node::new(b)?)))
 }
 
 pub(crate) fn join(v: u32) -> Option<Command>

@@ -4,13 +4,14 @@ ghost use Rattle.std.specs.Prelude.{◌≡◌, IfOk};
 ghost use Rattle.auditor.specs.TranscriptEnds.{MayGoOn};
 ghost use Rattle.run_session.specs.Line.{progress_of};
 ghost use Rattle.rule_machine.specs.Tables.{table_of, weight_of};
-ghost use Rattle.rudekpi_c.specs.Resumption.{GoesOnFrom, ResumesSession, resumed};
+ghost use Rattle.rudekpi_c.specs.Resumption.{ResumesSession, resumed};
+ghost use Rattle.rudekpi_c.specs.Session.{IsNewSession};
 
 use crate::audits::status_of;
 use crate::follow::unanswered;
 use crate::session::{Machine, Session};
 use crate::slot::Slot;
-use crate::status::{DONE, MEMORY};
+use crate::status::{DONE, MEMORY, ok_or};
 use crate::verdict::{Verdict, told};
 use auditor::{TranscriptEnd, end_of_bytes};
 use rule_engine::Net;
@@ -41,7 +42,7 @@ impl Session {
     /// A session that goes on from the end of a run. The session keeps its transcript.
     pub(crate) fn resume(alloc: Global, end: TranscriptEnd) -> Result<Session, Want>
         requires { MayGoOn end }
-        ensures { IfOk result (GoesOnFrom end) }
+        ensures { IfOk result (IsNewSession (resumed end)) }
     {
         let machine = match end.rules {
             RuleSet::Hh => Machine::Hh(resumed_run(alloc, end)?),
@@ -79,12 +80,8 @@ pub extern "C" fn rudekpi_session_resume(
         }
     };
     *verdict = told(Ok(end.summary));
-    let Ok(session) = Session::resume(alloc, end) else {
-        return MEMORY;
-    };
-    let Ok(session) = Box::new(alloc, session) else {
-        return MEMORY;
-    };
+    let session = ok_or!(Session::resume(alloc, end), MEMORY);
+    let session = ok_or!(Box::new(alloc, session), MEMORY);
     slot.put(session);
     DONE
 }

@@ -1,33 +1,24 @@
 //! How many rounds are complete, and how many can still come. Asking makes no entry.
 
 ghost use Rattle.std.specs.Prelude.{◌≡◌, IfSome, OnErr, OnOk, List, Some};
-ghost use Rattle.machine_laws.specs.ChargeWords.{IsUndisturbed};
 ghost use Rattle.round_laws.specs.RoundCounts.{rounds_of};
 ghost use Rattle.round_laws.specs.Rounds.{rounds_in};
 ghost use Rattle.rule_machine.specs.Run.{Entry};
 ghost use Rattle.rule_machine.specs.State.{State};
 ghost use Rattle.rule_machine.specs.Tables.{table_of};
-ghost use Rattle.run_session.specs.Line.{progress_of, recording_moment};
+ghost use Rattle.run_session.specs.Line.{recording_moment};
 ghost use Rattle.rule_engine.specs.Rounds.{HasRounds};
 ghost use Rattle.rule_engine.specs.RoundsLeft.{LeavesIfCounted};
 ghost use Rattle.rudekpi_c.specs.RoundCalls.{AnswersCounting, AnswersRounds, AnswersRoundsLeft, CountsLog, counted_from};
-ghost use Rattle.rudekpi_c.specs.Session.{limit_of, stands, rules_of};
+ghost use Rattle.rudekpi_c.specs.Session.{stands, rules_of, stands_at, rules_at, HasSameRules};
 ghost use Rattle.rudekpi_c.specs.declared.session.Session.{Session};
 
-use crate::session::{Machine, Session};
+use crate::session::{Machine, Session, with_run};
 use crate::slot::Slot;
-use crate::status::{DONE, MEMORY, NO_SESSION, NOT_COUNTED};
+use crate::status::{DONE, MEMORY, NO_SESSION, NOT_COUNTED, ok_or, some_or};
 use rule_machine::{Rules, Want};
 use run_session::Run;
 use std::alloc::Global;
-
-fn count_rounds<R: Rules>(run: &mut Run<R>) -> Result<(), Want>
-    ensures ok { OnOk result (progress_of run.new ≡ counted_from R.table (progress_of run.old)) }
-    ensures err { OnErr result (run.new ≡ run.old) }
-    ensures limit { run.new.recorder.limit ≡ run.old.recorder.limit }
-{
-    run.recorder.count_rounds()
-}
 
 fn rounds<R: Rules>(run: &Run<R>) -> Option<u32>
     ensures count { result ≡ rounds_of run.now.recorder.counting }
@@ -36,60 +27,45 @@ fn rounds<R: Rules>(run: &Run<R>) -> Option<u32>
     run.recorder.net().rounds()
 }
 
-impl Session {
+impl Machine {
     fn count_rounds(&mut self) -> Result<(), Want>
-        ensures ok { OnOk result (stands self.new ≡ counted_from (table_of (rules_of self.old)) (stands self.old)) }
+        ensures ok { OnOk result (stands_at self.new ≡ counted_from (table_of (rules_at self.old)) (stands_at self.old)) }
         ensures err { OnErr result (self.new ≡ self.old) }
-        ensures rules { rules_of self.new ≡ rules_of self.old }
-        ensures limit { limit_of self.new ≡ limit_of self.old }
-        ensures lines { self.new.lines ≡ self.old.lines }
-        ensures keeps { self.new.keeps ≡ self.old.keeps }
-        ensures answer { self.new.answer ≡ self.old.answer }
+        ensures same { HasSameRules self.old self.new }
     {
-        match &mut self.machine {
-            Machine::Hh(run) => count_rounds(run),
-            Machine::Manne(run) => count_rounds(run),
-        }
+        with_run!(self, run => run.recorder.count_rounds())
     }
+}
 
+impl Session {
     fn rounds(&self) -> Option<u32>
         ensures rounds { result ≡ rounds_of (stands self.now).counting }
         ensures some { IfSome (stands self.now).counting (λ count. HasRounds (table_of (rules_of self.now)) (stands self.now).moment count) }
     {
-        match &self.machine {
-            Machine::Hh(run) => rounds(run),
-            Machine::Manne(run) => rounds(run),
-        }
+        with_run!(&self.machine, run => rounds(run))
     }
 
     fn rounds_left(&mut self) -> Option<u32>
         ensures left { LeavesIfCounted (table_of (rules_of self.old)) (stands self.old).moment (stands self.old).counting result }
         ensures kept { self.new ≡ self.old }
     {
-        match &mut self.machine {
-            Machine::Hh(run) => run.recorder.rounds_left(),
-            Machine::Manne(run) => run.recorder.rounds_left(),
-        }
+        with_run!(&mut self.machine, run => run.recorder.rounds_left())
     }
 }
 
 /// Counts the rounds of a session from here on, or from here anew.
 ///
 /// Returns 3 if memory runs out, and 4 if there is no session; then nothing has changed. Takes some nine
-/// kilobytes. From then on a step costs a look or two more at each neighbour of a mover.
+/// kilobytes. From then on a step costs a look or two more at each mover and at each node that it disables.
 #[unsafe(no_mangle)]
 pub extern "C" fn rudekpi_count_rounds(alloc: Global, slot: &mut Slot) -> u32
     ensures { AnswersCounting result slot.old.handle.value slot.new.handle.value }
 {
-    let Some(mut session) = slot.take(alloc) else {
-        return NO_SESSION;
-    };
-    let done = session.count_rounds();
+    let mut session = some_or!(slot.take(alloc), NO_SESSION);
+    let done = session.machine.count_rounds();
     slot.put(session);
-    match done {
-        Ok(()) => DONE,
-        Err(_) => MEMORY,
-    }
+    ok_or!(done, MEMORY);
+    DONE
 }
 
 /// Writes how many rounds are complete since the last accepted disturbance, or since counting began.
@@ -103,15 +79,10 @@ pub extern "C" fn rudekpi_rounds(alloc: Global, slot: &mut Slot, rounds: &mut u3
     ensures kept { slot.new.handle.value ≡ slot.old.handle.value }
 {
     *rounds = 0;
-    let Some(session) = slot.take(alloc) else {
-        return NO_SESSION;
-    };
+    let session = some_or!(slot.take(alloc), NO_SESSION);
     let found = session.rounds();
     slot.put(session);
-    let Some(complete) = found else {
-        return NOT_COUNTED;
-    };
-    *rounds = complete;
+    *rounds = some_or!(found, NOT_COUNTED);
     DONE
 }
 
@@ -124,14 +95,9 @@ pub extern "C" fn rudekpi_rounds_left(alloc: Global, slot: &mut Slot, left: &mut
     ensures kept { slot.new.handle.value ≡ slot.old.handle.value }
 {
     *left = 0;
-    let Some(mut session) = slot.take(alloc) else {
-        return NO_SESSION;
-    };
+    let mut session = some_or!(slot.take(alloc), NO_SESSION);
     let found = session.rounds_left();
     slot.put(session);
-    let Some(most) = found else {
-        return NOT_COUNTED;
-    };
-    *left = most;
+    *left = some_or!(found, NOT_COUNTED);
     DONE
 }

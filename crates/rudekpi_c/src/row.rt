@@ -1,7 +1,8 @@
 //! The rows of an answer.
 
-ghost use Rattle.std.specs.Prelude.{◌≡◌, ◌≤◌, ◌++◌, length, map, drop};
+ghost use Rattle.std.specs.Prelude.{◌≡◌, length, map};
 ghost use Rattle.rudekpi_c.specs.declared.row.Row.{Row};
+ghost use Rattle.rudekpi_c.specs.StateViews.{ArePutRows};
 ghost use Rattle.rudekpi_c.specs.ReplyNumbers.{move_row, enabled_row, pair_row, rule_number};
 
 use crate::call_result::number_told;
@@ -78,11 +79,16 @@ pub(crate) fn rule_told(act: Act) -> u32
     }
 }
 
-pub(crate) fn put_rows<T: AsRow>(out: &mut [Row], items: &[T])
-    requires { length items.now ≤ length out.old }
-    ensures { out.new ≡ map T.shown items.now ++ drop (length items.now) out.old }
+/// Copies the rows if all fit; returns how many there are.
+pub(crate) fn put_rows<T: AsRow>(out: &mut [Row], items: &[T]) -> usize
+    ensures count { result ≡ length (map T.shown items.now) }
+    ensures put { ArePutRows (map T.shown items.now) out.old out.new }
 {
+    if items.len() > out.len() {
+        return items.len();
+    }
     for at in 0..items.len() {
         out[at] = items[at].row();
     }
+    items.len()
 }

@@ -1,15 +1,14 @@
 //! A session: a network, and the run of its commands.
 
-ghost use Rattle.std.specs.Prelude.{◌≡◌, ◌≤◌, ◌+◌, ◌^◌, ◌-◌, true, false, IfOk, IsOk, OnOk, min};
+ghost use Rattle.std.specs.Prelude.{◌≡◌, ◌≤◌, IfOk, IsOk, OnOk};
 ghost use Rattle.run_session.specs.RunStart.{first_progress};
-ghost use Rattle.rule_machine.specs.declared.reply.Reply.TheVariants.{Accepted};
 ghost use Rattle.rule_machine.specs.State.{partner};
 ghost use Rattle.rule_machine.specs.Tables.{table_of};
 ghost use Rattle.rudekpi_c.specs.CommandCalls.{number_at, reply_kept};
 ghost use Rattle.rudekpi_c.specs.CostCalls.{cost_at, GrowsBy};
 ghost use Rattle.rudekpi_c.specs.MovesLeftCalls.{left_at, IsMost};
 ghost use Rattle.rudekpi_c.specs.SilentDrives.{LineSilences, Silences};
-ghost use Rattle.rudekpi_c.specs.Session.{stands, limit_of, rules_of, with_text_if, LineEnded, CommandEnded};
+ghost use Rattle.rudekpi_c.specs.Session.{stands, limit_of, rules_of, stands_at, limit_at, rules_at, with_text_if, HasSameRules, IsNewSession, LineEnded, CommandEnded};
 
 use crate::follow::{follow, partner, unanswered};
 use rule_machine::{Event, Node, RuleSet, Want};
@@ -26,6 +25,18 @@ pub(crate) enum Machine {
     Manne(Run<Manne>),
 }
 
+/// The value of an expression about the machine's run, under either rule set.
+macro_rules! with_run {
+    ($machine:expr, $run:ident => $value:expr) => {
+        match $machine {
+            Machine::Hh($run) => $value,
+            Machine::Manne($run) => $value,
+        }
+    };
+}
+
+pub(crate) use with_run;
+
 /// A run that goes on from call to call.
 ///
 /// Beside the run: how many lines were fed, whether a transcript is kept, and the answer to the last command
@@ -38,6 +49,26 @@ pub struct Session {
     pub(crate) answer: Answer,
 }
 
+impl Machine {
+    pub(crate) fn feed(&mut self, alloc: Global, number: u64, line: &[u8]) -> Result<(), LineError>
+        ensures ends { LineEnded (rules_at self.old) (limit_at self.old) number line.now (stands_at self.old) (stands_at self.new) result }
+        ensures silent { IsOk result → LineSilences (table_of (rules_at self.old)) line.now (stands_at self.old).moment.state (stands_at self.new).moment.state }
+        ensures same { HasSameRules self.old self.new }
+    {
+        with_run!(self, run => run.carry_out(alloc, number, line))
+    }
+
+    /// Drops the text unless `keeps`.
+    pub(crate) fn settle(&mut self, keeps: bool)
+        ensures stands { stands_at self.new ≡ with_text_if keeps (stands_at self.old) }
+        ensures same { HasSameRules self.old self.new }
+    {
+        if !keeps {
+            with_run!(self, run => run.text.clear());
+        }
+    }
+}
+
 impl Session {
     /// A session of a new network. The session keeps its transcript.
     pub(crate) fn new(
@@ -48,12 +79,7 @@ impl Session {
     ) -> Result<Session, Want>
         requires few { nodes ≤ 65535 }
         requires within { present ≤ nodes }
-        ensures begins { IfOk result (λ session. stands session ≡ first_progress rules nodes present) }
-        ensures rules { IfOk result (λ session. rules_of session ≡ rules) }
-        ensures limit { IfOk result (λ session. limit_of session ≡ 16777216) }
-        ensures lines { IfOk result (λ session. session.lines ≡ 0) }
-        ensures keeps { IfOk result (λ session. session.keeps ≡ true) }
-        ensures answer { IfOk result (λ session. session.answer.reply ≡ Accepted) }
+        ensures { IfOk result (IsNewSession (first_progress rules nodes present)) }
     {
         let machine = match rules {
             RuleSet::Hh => Machine::Hh(Run::new(alloc, rules, nodes, present, MAX_ENTRIES)?),
@@ -67,55 +93,29 @@ impl Session {
         })
     }
 
-    pub(crate) fn feed(&mut self, alloc: Global, line: &[u8]) -> Result<(), LineError>
-        ensures ends { LineEnded (rules_of self.old) (limit_of self.old) self.new.lines line.now (stands self.old) (stands self.new) result }
-        ensures silent { IsOk result → LineSilences (table_of (rules_of self.old)) line.now (stands self.old).moment.state (stands self.new).moment.state }
-        ensures lines { self.new.lines ≡ min (self.old.lines + 1) (2 ^ 64 - 1) }
-        ensures rules { rules_of self.new ≡ rules_of self.old }
-        ensures limit { limit_of self.new ≡ limit_of self.old }
-        ensures keeps { self.new.keeps ≡ self.old.keeps }
-        ensures answer { self.new.answer ≡ self.old.answer }
-    {
-        self.lines = self.lines.saturating_add(1);
-        match &mut self.machine {
-            Machine::Hh(run) => run.carry_out(alloc, self.lines, line),
-            Machine::Manne(run) => run.carry_out(alloc, self.lines, line),
-        }
-    }
-
     pub(crate) fn follow(&mut self, alloc: Global, command: &Command) -> Result<(), RecordFault>
         ensures ends { CommandEnded (rules_of self.old) (limit_of self.old) command.now (stands self.old) (stands self.new) result }
         ensures silent { OnOk result (Silences (table_of (rules_of self.old)) command.now (stands self.old).moment.state (stands self.new).moment.state) }
         ensures number { self.new.answer.seq ≡ number_at command.now (stands self.new).count result }
         ensures reply { self.new.answer.reply ≡ reply_kept (table_of (rules_of self.old)) command.now (stands self.old) result }
-        ensures rules { rules_of self.new ≡ rules_of self.old }
-        ensures limit { limit_of self.new ≡ limit_of self.old }
+        ensures same { HasSameRules self.old.machine self.new.machine }
         ensures lines { self.new.lines ≡ self.old.lines }
         ensures keeps { self.new.keeps ≡ self.old.keeps }
     {
-        match &mut self.machine {
-            Machine::Hh(run) => follow(run, alloc, command, &mut self.answer),
-            Machine::Manne(run) => follow(run, alloc, command, &mut self.answer),
-        }
+        with_run!(&mut self.machine, run => follow(run, alloc, command, &mut self.answer))
     }
 
     pub(crate) fn partner(&self, v: Node) -> Option<Node>
         ensures { result ≡ partner (stands self.now).moment.state v }
     {
-        match &self.machine {
-            Machine::Hh(run) => partner(run, v),
-            Machine::Manne(run) => partner(run, v),
-        }
+        with_run!(&self.machine, run => partner(run, v))
     }
 
     pub(crate) fn cost_of(&self, event: &Event) -> u32
         ensures cost { result ≡ cost_at self.now event.now }
         ensures grows { GrowsBy (table_of (rules_of self.now)) (stands self.now).moment event.now result }
     {
-        match &self.machine {
-            Machine::Hh(run) => run.recorder.net().cost_of(event),
-            Machine::Manne(run) => run.recorder.net().cost_of(event),
-        }
+        with_run!(&self.machine, run => run.recorder.net().cost_of(event))
     }
 
     pub(crate) fn moves_left(&mut self) -> u32
@@ -123,70 +123,13 @@ impl Session {
         ensures promise { IsMost (table_of (rules_of self.old)) (stands self.old).moment result }
         ensures kept { self.new ≡ self.old }
     {
-        match &mut self.machine {
-            Machine::Hh(run) => run.recorder.moves_left(),
-            Machine::Manne(run) => run.recorder.moves_left(),
-        }
+        with_run!(&mut self.machine, run => run.recorder.moves_left())
     }
 
     /// The text of the entries that C has not taken.
     pub(crate) fn text(&self) -> &[u8]
         ensures { result.now ≡ (stands self.now).text }
     {
-        match &self.machine {
-            Machine::Hh(run) => &run.text,
-            Machine::Manne(run) => &run.text,
-        }
-    }
-
-    pub(crate) fn forget_text(&mut self)
-        ensures stands { stands self.new ≡ with_text_if false (stands self.old) }
-        ensures rules { rules_of self.new ≡ rules_of self.old }
-        ensures limit { limit_of self.new ≡ limit_of self.old }
-        ensures lines { self.new.lines ≡ self.old.lines }
-        ensures keeps { self.new.keeps ≡ self.old.keeps }
-        ensures answer { self.new.answer ≡ self.old.answer }
-    {
-        match &mut self.machine {
-            Machine::Hh(run) => run.text.clear(),
-            Machine::Manne(run) => run.text.clear(),
-        }
-    }
-
-    pub(crate) fn forget_answer(&mut self)
-        ensures number { self.new.answer.seq ≡ 0 }
-        ensures reply { self.new.answer.reply ≡ Accepted }
-        ensures stands { stands self.new ≡ stands self.old }
-        ensures rules { rules_of self.new ≡ rules_of self.old }
-        ensures limit { limit_of self.new ≡ limit_of self.old }
-        ensures lines { self.new.lines ≡ self.old.lines }
-        ensures keeps { self.new.keeps ≡ self.old.keeps }
-    {
-        self.answer = unanswered(0);
-    }
-
-    pub(crate) fn keep(&mut self, keeps: bool)
-        ensures keeps { self.new.keeps ≡ keeps }
-        ensures stands { stands self.new ≡ stands self.old }
-        ensures rules { rules_of self.new ≡ rules_of self.old }
-        ensures limit { limit_of self.new ≡ limit_of self.old }
-        ensures lines { self.new.lines ≡ self.old.lines }
-        ensures answer { self.new.answer ≡ self.old.answer }
-    {
-        self.keeps = keeps;
-    }
-
-    /// Drops the text if no transcript is kept.
-    pub(crate) fn settle(&mut self)
-        ensures stands { stands self.new ≡ with_text_if self.old.keeps (stands self.old) }
-        ensures rules { rules_of self.new ≡ rules_of self.old }
-        ensures limit { limit_of self.new ≡ limit_of self.old }
-        ensures lines { self.new.lines ≡ self.old.lines }
-        ensures keeps { self.new.keeps ≡ self.old.keeps }
-        ensures answer { self.new.answer ≡ self.old.answer }
-    {
-        if !self.keeps {
-            self.forget_text();
-        }
+        with_run!(&self.machine, run => &run.text)
     }
 }

@@ -5,7 +5,7 @@ ghost use Rattle.rudekpi_c.specs.Slot.{OpensSession, AnswersFeed, Handed, line_s
 
 use crate::session::Session;
 use crate::slot::Slot;
-use crate::status::{BAD_ARGUMENT, BAD_LINE, DONE, LOG_FULL, MEMORY, NO_SESSION};
+use crate::status::{BAD_ARGUMENT, BAD_LINE, DONE, LOG_FULL, MEMORY, NO_SESSION, ok_or, some_or};
 use rule_machine::{MAX_NAME, RuleSet};
 use run_session::LineError;
 use std::alloc::Global;
@@ -38,12 +38,11 @@ pub extern "C" fn rudekpi_session_new(
     if rules > 1 || nodes > MAX_NAME || present > nodes {
         return BAD_ARGUMENT;
     }
-    let Ok(session) = Session::new(alloc, rules_named(rules), nodes, present) else {
-        return MEMORY;
-    };
-    let Ok(session) = Box::new(alloc, session) else {
-        return MEMORY;
-    };
+    let session = ok_or!(
+        Session::new(alloc, rules_named(rules), nodes, present),
+        MEMORY
+    );
+    let session = ok_or!(Box::new(alloc, session), MEMORY);
     slot.put(session);
     DONE
 }
@@ -65,11 +64,11 @@ pub extern "C" fn rudekpi_session_feed(
 ) -> u32
     ensures { AnswersFeed line.now number.old result number.new slot.old.handle.value slot.new.handle.value }
 {
-    let Some(mut session) = slot.take(alloc) else {
-        return NO_SESSION;
-    };
-    let done = session.feed(alloc, line);
-    *number = session.lines;
+    let mut session = some_or!(slot.take(alloc), NO_SESSION);
+    let line_number = session.lines.saturating_add(1);
+    let done = session.machine.feed(alloc, line_number, line);
+    session.lines = line_number;
+    *number = line_number;
     slot.put_back(session);
     status_of(done)
 }
@@ -80,9 +79,7 @@ pub extern "C" fn rudekpi_session_length(alloc: Global, slot: &mut Slot) -> usiz
     ensures kept { slot.new.handle.value ≡ slot.old.handle.value }
     ensures len { result ≡ text_length slot.old.handle.value }
 {
-    let Some(session) = slot.take(alloc) else {
-        return 0;
-    };
+    let session = some_or!(slot.take(alloc), 0);
     let len = session.text().len();
     slot.put(session);
     len
@@ -95,9 +92,7 @@ pub extern "C" fn rudekpi_session_length(alloc: Global, slot: &mut Slot) -> usiz
 pub extern "C" fn rudekpi_session_read(alloc: Global, slot: &mut Slot, out: &mut [u8]) -> usize
     ensures { Handed out.old out.new result slot.old.handle.value slot.new.handle.value }
 {
-    let Some(mut session) = slot.take(alloc) else {
-        return 0;
-    };
+    let mut session = some_or!(slot.take(alloc), 0);
     let text = session.text();
     let len = text.len();
     if len > out.len() {
@@ -105,7 +100,7 @@ pub extern "C" fn rudekpi_session_read(alloc: Global, slot: &mut Slot, out: &mut
         return len;
     }
     out[..len].copy_from_slice(text);
-    session.forget_text();
+    session.machine.settle(false);
     slot.put(session);
     len
 }

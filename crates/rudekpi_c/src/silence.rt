@@ -11,9 +11,9 @@ ghost use Rattle.rudekpi_c.specs.Session.{stands, rules_of};
 ghost use Rattle.rudekpi_c.specs.SilentCosts.{silent_cost_at, IsSilentAt, PaysFor, AnswersSilentCost};
 
 use crate::request;
-use crate::session::{Machine, Session};
+use crate::session::{Machine, Session, with_run};
 use crate::slot::Slot;
-use crate::status::{BAD_ARGUMENT, DONE, NO_SESSION, NOT_SILENT};
+use crate::status::{BAD_ARGUMENT, DONE, NO_SESSION, NOT_SILENT, some_or};
 use rule_machine::Event;
 use script_text::Command;
 use std::alloc::Global;
@@ -25,10 +25,7 @@ impl Session {
         ensures cost { IfSome result (λ most. most ≡ silent_cost_at self.now event.now) }
         ensures pays { IfSome result (λ most. PaysFor (table_of (rules_of self.now)) (stands self.now).moment event.now most) }
     {
-        match &self.machine {
-            Machine::Hh(run) => run.recorder.net().silent_cost_of(event),
-            Machine::Manne(run) => run.recorder.net().silent_cost_of(event),
-        }
+        with_run!(&self.machine, run => run.recorder.net().silent_cost_of(event))
     }
 }
 
@@ -40,15 +37,10 @@ fn silent_cost(alloc: Global, slot: &mut Slot, asked: Option<Command>, cost: &mu
     let Some(Command::Tell(event)) = asked else {
         return BAD_ARGUMENT;
     };
-    let Some(session) = slot.take(alloc) else {
-        return NO_SESSION;
-    };
+    let session = some_or!(slot.take(alloc), NO_SESSION);
     let found = session.silent_cost_of(&event);
     slot.put(session);
-    let Some(most) = found else {
-        return NOT_SILENT;
-    };
-    *cost = most;
+    *cost = some_or!(found, NOT_SILENT);
     DONE
 }
 

@@ -41,12 +41,14 @@ impl Slot {
         let handle = Handle::of_parts(Parts::of(session));
         *self = Slot { handle, full: true };
     }
+
     /// Drops the session's text if it keeps no transcript.
     pub(crate) fn put_back(&mut self, session: Box<Session>)
         ensures { IsPutBack session.value self.new.handle.value }
     {
         let mut session = session;
-        session.settle();
+        let keeps = session.keeps;
+        session.machine.settle(keeps);
         self.put(session);
     }
 }

@@ -32,3 +32,26 @@ pub(crate) const NOT_SHOWN: u32 = 9;
 
 /// Rounds are not counted.
 pub(crate) const NOT_COUNTED: u32 = 10;
+
+/// The value in an option; without one the function returns this.
+macro_rules! some_or {
+    ($option:expr, $status:expr) => {
+        match $option {
+            Some(value) => value,
+            None => return $status,
+        }
+    };
+}
+
+/// The value in a result; without one the function returns this.
+macro_rules! ok_or {
+    ($result:expr, $status:expr) => {
+        match $result {
+            Ok(value) => value,
+            Err(_) => return $status,
+        }
+    };
+}
+
+pub(crate) use ok_or;
+pub(crate) use some_or;

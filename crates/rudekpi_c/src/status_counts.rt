@@ -4,6 +4,7 @@ ghost use Rattle.std.specs.Prelude.{◌≡◌};
 ghost use Rattle.rudekpi_c.specs.CountCalls.{counted_in, counted_kept, uncounted};
 
 use crate::slot::Slot;
+use crate::status::some_or;
 use rule_machine::Reply;
 use std::alloc::Global;
 
@@ -56,9 +57,7 @@ pub(crate) fn counted_of(alloc: Global, slot: &mut Slot) -> StatusCounts
     ensures counted { result ≡ counted_kept slot.old.handle.value }
     ensures kept { slot.new.handle.value ≡ slot.old.handle.value }
 {
-    let Some(session) = slot.take(alloc) else {
-        return StatusCounts::none();
-    };
+    let session = some_or!(slot.take(alloc), StatusCounts::none());
     let counts = StatusCounts::of(&session.answer.reply);
     slot.put(session);
     counts

@@ -1,7 +1,7 @@
 //! The audit of a transcript.
 
 ghost use Rattle.std.specs.Prelude.{◌≡◌};
-ghost use Rattle.rudekpi_c.specs.AuditVerdicts.{JudgedAs, accepted, damaged, refused, unjudged, audit_verdict};
+ghost use Rattle.rudekpi_c.specs.AuditVerdicts.{JudgedAs, damaged, refused, unjudged, audit_verdict};
 
 use auditor::{AuditFault, Summary, audit_bytes};
 use std::alloc::Global;
@@ -27,18 +27,6 @@ pub struct Verdict {
     pub epochs: u32,
     pub moves: u64,
     pub line: u64,
-}
-
-fn told_accepted(counted: Summary) -> Verdict
-    ensures { result ≡ accepted counted }
-{
-    Verdict {
-        kind: 0,
-        entries: counted.entries,
-        epochs: counted.epochs,
-        moves: counted.moves,
-        line: 0,
-    }
 }
 
 fn told_refused(kind: u32, line: u64) -> Verdict
@@ -77,7 +65,13 @@ pub(crate) fn told(found: Result<Summary, AuditFault>) -> Verdict
     ensures { result ≡ audit_verdict found }
 {
     match found {
-        Ok(counted) => told_accepted(counted),
+        Ok(counted) => Verdict {
+            kind: 0,
+            entries: counted.entries,
+            epochs: counted.epochs,
+            moves: counted.moves,
+            line: 0,
+        },
         Err(fault) => told_fault(fault),
     }
 }

@@ -1,19 +1,20 @@
 -- A counter of rounds after one more entry.
-use Rattle.rule_engine.proofs.Prelude.{◌≡◌, ◌∙◌, ◌≢◌, ℕ, ◌+◌, ◌<◌, ◌≤◌, Bool, false, cond, List, [], ◌∷◌, ◌++◌, length, All-push, Option, None, Some, IsTrue, refl, sym, ap, subst, arith, Moved, Event, Reply, Accepted, Refused, Moves, Shown, EnabledAre, Pairs, Counts, State, IsState, RuleTable, Answers, spent_after, Entry, Moment, Run, IsTable, Does, AnswersBy, refusal_of, Refusal, Step, false≢true, run_add, answers_keep, followed, answer_followed, enabled_names, Network, members, IsUndisturbed, RoundCount, count_of_log, counted_whole, rounds_in, rounds_of, next_count, AreEnabledIn, HasCounted, IsLocal, CanCount, count_in, is_step, log_after, start_after, RoundCounter, CountsRun}
+use Rattle.enabled_set.specs.RemovedNames.{AreNoted, RemovedNames}
+use Rattle.rule_engine.proofs.Prelude.{◌≡◌, ◌∙◌, ◌≢◌, ℕ, ◌+◌, ◌<◌, ◌≤◌, Bool, false, cond, List, [], ◌∷◌, ◌++◌, length, All-push, Option, None, Some, IsTrue, refl, sym, ap, subst, arith, Moved, Event, Reply, Accepted, Refused, Moves, Shown, EnabledAre, Pairs, Counts, State, IsState, RuleTable, Answers, spent_after, Entry, Moment, Run, IsTable, Does, AnswersBy, refusal_of, Refusal, Step, false≢true, run_add, answers_keep, followed, answer_followed, enabled_names, Network, members, IsUndisturbed, RoundCount, count_of_log, counted_whole, rounds_in, rounds_of, next_count, AreEnabledIn, HasCounted, CanCount, count_in, is_step, log_after, start_after, RoundCounter, CountsRun}
 
 -- what the counter says of an entry that led to this state
 abbrev pub CountsTo : RuleTable → State → Event → Reply → State → RoundCounter → RoundCounter → Type 0
 CountsTo t s event reply next old new = (start : State) (log : List Entry) → CanCount reply old → HasCounted t start log s old → HasCounted t (start_after start reply next) (log_after log event reply) next new
 
 -- the state after an answer is the one that its reply tells
-pub counts_to : (t : RuleTable) → IsTable t → IsLocal t → (net : Network) (e : List Bool) (m : Moment) (event : Event) (reply : Reply) (next : State) (old new : RoundCounter) → IsState m.state → Answers t m.state m.spent event reply next → net ≡ next.network → members e ≡ enabled_names t next
-    → ((t : RuleTable) (start : State) (log : List Entry) (s : State) (event : Event) → IsLocal t → IsState s → IsState (followed s event reply) → net ≡ (followed s event reply).network → members e ≡ enabled_names t (followed s event reply) → CanCount reply old → HasCounted t start log s old → HasCounted t (start_after start reply (followed s event reply)) (log_after log event reply) (followed s event reply) new)
+pub counts_to : (t : RuleTable) (e : List Bool) (removed : RemovedNames) (m : Moment) (event : Event) (reply : Reply) (next : State) (old new : RoundCounter) → Answers t m.state m.spent event reply next → members e ≡ enabled_names t next → (IsTrue (is_step reply) → AreNoted old.pending e removed)
+    → ((t : RuleTable) (start : State) (log : List Entry) (s : State) (event : Event) → members e ≡ enabled_names t (followed s event reply) → CanCount reply old → (IsTrue (is_step reply) → AreNoted old.pending e removed) → HasCounted t start log s old → HasCounted t (start_after start reply (followed s event reply)) (log_after log event reply) (followed s event reply) new)
     → CountsTo t m.state event reply next old new
-counts_to t table local net e m event reply next old new good answers same is clause start log may it =
-    subst (λ (u : State). IsState u → net ≡ u.network → members e ≡ enabled_names t u → HasCounted t (start_after start reply u) (log_after log event reply) u new)
+counts_to t e removed m event reply next old new answers is noted clause start log may it =
+    subst (λ (u : State). members e ≡ enabled_names t u → HasCounted t (start_after start reply u) (log_after log event reply) u new)
     (answer_followed t m.state m.spent event reply next answers)
-    (λ good' same is. clause t start log m.state event local good good' same is may it)
-    (answers_keep t table m.state good m.spent event reply next answers) same is
+    (λ is. clause t start log m.state event is may noted it)
+    is
 
 abbrev kind : Reply → ℕ
 kind Accepted = 1
@@ -106,15 +107,15 @@ can_count t m next event (Pairs x) old answers spent fits ready before step = ab
 can_count t m next event (Counts x) old answers spent fits ready before step = absurd (false≢true step)
 
 -- the state after an answer is the one that its reply tells
-pub count_after : (t : RuleTable) → IsTable t → IsLocal t → (net : Network) (e : List Bool) (m next : Moment) (event : Event) (reply : Reply) (old new : RoundCounter) → IsState m.state → Answers t m.state m.spent event reply next.state → next.spent ≡ spent_after m.spent reply → next.spent < 4294967296 → (IsTrue (is_step reply) → old.is_new ≡ false)
-    → net ≡ next.state.network → members e ≡ enabled_names t next.state
-    → ((t : RuleTable) (s : State) (event : Event) → IsLocal t → IsState s → IsState (followed s event reply) → net ≡ (followed s event reply).network → members e ≡ enabled_names t (followed s event reply) → CanCount reply old → AreEnabledIn t s old → count_in t (followed s event reply) new ≡ next_count t reply (followed s event reply) (count_in t s old))
+pub count_after : (t : RuleTable) (e : List Bool) (removed : RemovedNames) (m next : Moment) (event : Event) (reply : Reply) (old new : RoundCounter) → Answers t m.state m.spent event reply next.state → next.spent ≡ spent_after m.spent reply → next.spent < 4294967296 → (IsTrue (is_step reply) → old.is_new ≡ false)
+    → members e ≡ enabled_names t next.state → (IsTrue (is_step reply) → AreNoted old.pending e removed)
+    → ((t : RuleTable) (s : State) (event : Event) → members e ≡ enabled_names t (followed s event reply) → CanCount reply old → (IsTrue (is_step reply) → AreNoted old.pending e removed) → count_in t (followed s event reply) new ≡ next_count t reply (followed s event reply) (count_in t s old))
     → CountsRun t m old → count_in t next.state new ≡ next_count t reply next.state (count_in t m.state old)
-count_after t table local net e m next event reply old new good answers spent fits ready same is clause it =
-    subst (λ (u : State). IsState u → net ≡ u.network → members e ≡ enabled_names t u → count_in t u new ≡ next_count t reply u (count_in t m.state old))
+count_after t e removed m next event reply old new answers spent fits ready is noted clause it =
+    subst (λ (u : State). members e ≡ enabled_names t u → count_in t u new ≡ next_count t reply u (count_in t m.state old))
     (answer_followed t m.state m.spent event reply next.state answers)
-    (λ good' same is. clause t m.state event local good good' same is (can_count t m next event reply old answers spent fits ready it.few) it.counted.enabled)
-    (answers_keep t table m.state good m.spent event reply next.state answers) same is
+    (λ is. clause t m.state event is (can_count t m next event reply old answers spent fits ready it.few) noted)
+    is
 
 -- a count of a log without a disturbance tells its rounds
 pub exact_rounds : (t : RuleTable) (start : State) (log : List Entry) (counting : Option RoundCount) (rounds : Option ℕ) → rounds ≡ rounds_of counting → IsUndisturbed log → counting ≡ Some (count_of_log t start log) → rounds ≡ Some (rounds_in t start log)

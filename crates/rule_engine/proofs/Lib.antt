@@ -24,3 +24,4 @@ pub mod EnabledNames
 pub mod NetworkStarts
 pub mod CountedRounds
 pub mod RoundsLeft
+pub mod LeaversNoted

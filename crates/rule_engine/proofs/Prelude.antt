@@ -52,7 +52,7 @@ pub use Rattle.net_state.specs.declared.change.Change.{Change}
 pub use Rattle.net_state.specs.declared.change.Change.TheVariants.{Pointed, Flagged}
 pub use Rattle.move_bounds.proofs.SmallerBound.{smaller_bounds}
 pub use Rattle.move_bounds.specs.MovesLeft.{BoundsMoves}
-pub use Rattle.round_counter.specs.Counting.{AreEnabledIn, HasCounted, IsLocal, CanCount, count_in, is_step, log_after, start_after}
+pub use Rattle.round_counter.specs.Counting.{AreEnabledIn, HasCounted, CanCount, count_in, is_step, log_after, start_after}
 pub use Rattle.round_counter.specs.declared.counter.RoundCounter.{RoundCounter}
 pub use Rattle.round_laws.proofs.Counting.{answer_followed}
 pub use Rattle.round_laws.proofs.RoundCounts.{counted_whole}
@@ -60,7 +60,7 @@ pub use Rattle.round_laws.specs.Rounds.{rounds_in}
 pub use Rattle.round_laws.specs.RoundCounts.{RoundCount, count_of_log, first_count, next_count, next_counting, rounds_of}
 pub use Rattle.rule_machine.specs.Answer.{Answers, Does, spent_after, AnswersBy}
 pub use Rattle.rule_machine.specs.Disturbance.{after_link, after_join, after_point, after_flag}
-pub use Rattle.rule_machine.specs.Least.{outcome_of, move_in, item_of, least_moves, outcome_at, outcome_by, reply_of, state_after, replies_of, reply_by, accepted_reply}
+pub use Rattle.rule_machine.specs.Least.{outcome_of, move_in, item_of, least_moves, outcome_at, outcome_by, reply_of, state_after, reply_by, accepted_reply}
 pub use Rattle.rule_machine.specs.Network.{names, present, Network, IsNetwork, linked, neighbours, with_edge, without_edge, with_node, edge, node_count, edge_count, edge_list}
 pub use Rattle.rule_machine.specs.Refuse.{item_refusal, items_refusal, refusal_of, step_refusal, rule_refusal, wish_refusal, both_present, link_refusal}
 pub use Rattle.rule_machine.specs.RuleTable.{enabled_names, RuleTable, acts, rule_at, is_open, enabled}
@@ -89,7 +89,7 @@ pub use Rattle.rule_engine.specs.Costs.{disturbs, may_disturb}
 pub use Rattle.rule_engine.specs.DerivedValues.{WereOn}
 pub use Rattle.rule_engine.specs.DisturbanceReach.{would_reach, reach_of, Spares}
 pub use Rattle.rule_engine.specs.EngineStates.{AreOn, is_enabled_at, moment, guard_at, marked_at}
-pub use Rattle.rule_engine.specs.EventReplies.{IsWithinBudget, StopsForMemory, counting_after_all, moment_after_all, takes_memory, Prepares, stored_reply}
+pub use Rattle.rule_engine.specs.EventReplies.{IsWithinBudget, takes_memory, Prepares, stored_reply}
 pub use Rattle.rule_engine.specs.GuardRefresh.{IsRefreshed, is_suitor, may_change_guard, is_null_target}
 pub use Rattle.rule_engine.specs.Marks.{Ascend, is_named, AreMarks, HasPlace, is_judged, HasMarks}
 pub use Rattle.rule_engine.specs.PreparedEvents.{NetView, IsPrepared, HasRoomTo, net_moment, with_counting}

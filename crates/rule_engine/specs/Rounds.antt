@@ -1,5 +1,6 @@
 -- The rounds that a network counts.
-use Rattle.std.specs.Prelude.{◌≡◌, ℕ, ◌+◌, ◌≤◌, List, ◌++◌, Option, None, Some, IsTrue, false}
+use Rattle.std.specs.Prelude.{◌≡◌, ℕ, ◌+◌, ◌≤◌, Bool, List, ◌++◌, Option, None, Some, IsTrue, false}
+use Rattle.enabled_set.specs.RemovedNames.{AreNoted, RemovedNames}
 use Rattle.rule_machine.specs.declared.reply.Reply.{Reply}
 use Rattle.rule_machine.specs.State.{State, IsState}
 use Rattle.rule_machine.specs.RuleTable.{RuleTable}
@@ -46,6 +47,11 @@ counting_in t s (Some c) = Some (count_in t s c)
 abbrev pub IsReady : Reply → Option RoundCounter → Type 0
 IsReady reply None = Unit {0}
 IsReady reply (Some c) = IsTrue (is_step reply) → c.is_new ≡ false
+
+-- after a step, the pending nodes that the set of enabled nodes lacks are noted
+abbrev pub AreLeaversNoted : Reply → Option RoundCounter → List Bool → RemovedNames → Type 0
+AreLeaversNoted reply None enabled removed = Unit {0}
+AreLeaversNoted reply (Some c) enabled removed = IsTrue (is_step reply) → AreNoted c.pending enabled removed
 
 -- the moment is within its budget, and the counter, if there is one, has counted up to it
 pub record IsCountedMoment (t : RuleTable) (weight : ℕ) (m : Moment) (rounds : Option RoundCounter) : Type 0 where

@@ -33,13 +33,11 @@ fn charge_by<R: Rules>(net: &NetState, open_edges: u32, added: u32, closing: u32
 }
 
 /// Looks at the nodes whose contribution may have changed since the last call.
-pub(crate) fn totals_of<R: Rules>(net: &mut NetState, derived: &mut Derived<R>) -> Totals
-    requires derived { ⟦<Derived<R> as Observer>⟧.fits net.old derived.old }
-    ensures state { net.new.state ≡ net.old.state }
-    ensures room { net.new.room ≡ net.old.room }
-    ensures derived { ⟦<Derived<R> as Observer>⟧.fits net.new derived.new }
-    ensures pairs { result.pairs ≡ length (mutual_pairs net.old.state) }
-    ensures charge { result.charge ≡ R.table.charge net.old.state }
+pub(crate) fn totals_of<R: Rules>(net: &NetState, derived: &mut Derived<R>) -> Totals
+    requires derived { ⟦<Derived<R> as Observer>⟧.fits net.now derived.old }
+    ensures derived { ⟦<Derived<R> as Observer>⟧.fits net.now derived.new }
+    ensures pairs { result.pairs ≡ length (mutual_pairs net.now.state) }
+    ensures charge { result.charge ≡ R.table.charge net.now.state }
 {
     let all = derived.contributions.totals(net, &derived.suitors);
     Totals {

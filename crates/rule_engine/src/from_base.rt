@@ -4,14 +4,13 @@ ghost use Rattle.std.specs.Prelude.{◌≡◌, ◌≤◌, ◌+◌, ◌↔◌, If
 ghost use Rattle.std.specs.List.{list_any};
 ghost use Rattle.machine_laws.specs.ChargeWords.{charge_bound};
 ghost use Rattle.rule_machine.specs.Base.{IsBaseMoment};
-ghost use Rattle.rule_machine.specs.State.{IsState};
 ghost use Rattle.rule_engine.specs.BaseFaults.{ExplainsBaseFault, IsBaseOfNetwork, IsStateOf};
 ghost use Rattle.rule_engine.specs.PreparedEvents.{net_moment};
 
-use crate::engine::Engine;
-use crate::{BaseFault, Net};
+use crate::charge::totals_of;
+use crate::{BaseFault, Derived, Net};
 use graph_store::MAX_EDGES;
-use net_state::{NetState, edges_ascend, has_flag, names_rise};
+use net_state::{NetState, Observer, edges_ascend, has_flag, names_rise};
 use rule_machine::{Base, MAX_NAME, NodeRecord, Rules};
 use std::alloc::Global;
 
@@ -51,15 +50,13 @@ fn has_unused_flag<R: Rules>(nodes: &[NodeRecord]) -> bool
 }
 
 /// Whether the moves spent plus the charge are within the bound.
-fn is_within<R: Rules>(engine: &mut Engine<R>, spent: u32) -> bool
-    ensures within { result ≡ nat_le (spent + R.table.charge engine.old.state) (charge_bound R.NODE_WEIGHT engine.old.state.network) }
-    ensures sound { IsState engine.old.state }
-    ensures kept { engine.new.state ≡ engine.old.state }
+fn is_within<R: Rules>(net: &NetState, derived: &mut Derived<R>, spent: u32) -> bool
+    requires derived { ⟦<Derived<R> as Observer>⟧.fits net.now derived.old }
+    ensures within { result ≡ nat_le (spent + R.table.charge net.now.state) (charge_bound R.NODE_WEIGHT net.now.state.network) }
+    ensures derived { ⟦<Derived<R> as Observer>⟧.fits net.now derived.new }
 {
-    // Gives the prover `IsState`.
-    let _ = engine.net();
-    let charge = u64::from(engine.charge());
-    let store = engine.net().store();
+    let charge = u64::from(totals_of(net, derived).charge);
+    let store = net.store();
     prove!(store.nodes() <= MAX_NAME && store.edges() <= MAX_EDGES);
     let bound = 2 * u64::from(store.edges()) + R::NODE_WEIGHT * u64::from(store.nodes());
     u64::from(spent) + charge <= bound
@@ -89,15 +86,11 @@ impl<R: Rules> Net<R> {
         if has_unused_flag::<R>(base.nodes.as_slice()) {
             return Err(BaseFault::HasFlags);
         }
-        let mut engine = Engine::of(alloc, state)?;
-        if !is_within(&mut engine, base.spent) {
+        let mut derived = Derived::of(alloc, &state)?;
+        if !is_within(&state, &mut derived, base.spent) {
             return Err(BaseFault::AboveBound);
         }
-        Ok(Net {
-            alloc,
-            engine,
-            spent: base.spent,
-            rounds: None,
-        })
+        let net = Net::with_derived(alloc, state, derived, base.spent)?;
+        Ok(net)
     }
 }

@@ -5,7 +5,7 @@ ghost use Rattle.rule_engine.specs.EngineStates.{AreOn};
 
 use crate::Derived;
 use crate::guard::rule_enabled;
-use enabled_set::EnabledSet;
+use enabled_set::{EnabledSet, Removals};
 use net_state::{NetState, Observer};
 use net_totals::Contributions;
 use rule_machine::{Node, Rules, Want};
@@ -43,6 +43,7 @@ impl<R: Rules> Derived<R> {
             suitors,
             contributions,
             enabled,
+            removals: Removals::without_room(alloc),
         })
     }
 }

@@ -56,14 +56,12 @@ fn pairs_of(alloc: Global, registers: &Registers, ends: &[Node]) -> Result<Vec<E
 /// call.
 pub(crate) fn mutual_edges<R: Rules>(
     alloc: Global,
-    net: &mut NetState,
+    net: &NetState,
     derived: &mut Derived<R>,
 ) -> Result<Vec<Edge>, Want>
-    requires derived { ⟦<Derived<R> as Observer>⟧.fits net.old derived.old }
-    ensures state { net.new.state ≡ net.old.state }
-    ensures room { net.new.room ≡ net.old.room }
-    ensures derived { ⟦<Derived<R> as Observer>⟧.fits net.new derived.new }
-    ensures pairs { IfOk result (λ pairs. pairs.items ≡ mutual_pairs net.old.state) }
+    requires derived { ⟦<Derived<R> as Observer>⟧.fits net.now derived.old }
+    ensures derived { ⟦<Derived<R> as Observer>⟧.fits net.now derived.new }
+    ensures pairs { IfOk result (λ pairs. pairs.items ≡ mutual_pairs net.now.state) }
 {
     let ends = derived.contributions.lower_ends(net, &derived.suitors)?;
     pairs_of(alloc, net.registers(), &ends)

@@ -1,43 +1,35 @@
 //! A network under a rule set.
 
-ghost use Rattle.std.specs.Prelude.{◌≡◌, ◌<◌, ◌≤◌, ◌+◌, ◌*◌, ◌↔◌, ℕ, List, [], IfOk, IfErr, IfSome, OnOk, OnErr, IsTrue, None, false, length, take, zip, slice_get};
+ghost use Rattle.std.specs.Prelude.{◌≡◌, ◌<◌, ◌≤◌, ◌+◌, ◌*◌, ◌↔◌, ℕ, List, [], IfOk, IfErr, IfSome, OnOk, IsTrue, None, false, length, slice_get};
 ghost use Rattle.enabled_set.specs.Members.{members};
 ghost use Rattle.graph_store.specs.Fault.{nodes_fault, ExplainsGraphFault};
 ghost use Rattle.machine_laws.specs.ChargeWords.{charge_bound};
-ghost use Rattle.round_laws.specs.RoundCounts.{next_counting};
+ghost use Rattle.machine_laws.specs.HalfMatchings.{IsMatching};
+ghost use Rattle.containment_laws.specs.Rest.{is_at_rest};
 ghost use Rattle.rule_machine.specs.Base.{base_of};
 ghost use Rattle.rule_machine.specs.Network.{node_count, edge_count};
 ghost use Rattle.rule_machine.specs.State.{IsState, flag};
 ghost use Rattle.rule_machine.specs.RuleTable.{enabled_names, rule_at};
-ghost use Rattle.rule_machine.specs.Refuse.{refusal_of};
-ghost use Rattle.rule_machine.specs.Least.{reply_of, replies_of};
 ghost use Rattle.rule_machine.specs.Stable.{IsStable, IsMaximalMatching, mutual_pairs};
-ghost use Rattle.rule_machine.specs.Run.{Run, beginning, beginning_with, moment_after};
-ghost use Rattle.rule_machine.specs.Answer.{Answers};
-ghost use Rattle.machine_laws.specs.HalfMatchings.{IsMatching};
-ghost use Rattle.rule_machine.specs.declared.event.Event.TheVariants.{Step};
-ghost use Rattle.rule_engine.specs.EngineStates.{guard_at, IsAnswered};
-ghost use Rattle.rule_engine.specs.EventReplies.{StopsForMemory, counting_after_all, moment_after_all, takes_memory};
-ghost use Rattle.rule_engine.specs.ChoiceMoves.{verdict_of, verdicts_of};
-ghost use Rattle.rule_engine.specs.Costs.{disturbance_cost, BoundsGrowth};
-ghost use Rattle.rule_engine.specs.DisturbanceReach.{would_reach, reach_of, Spares, StaysAtRest};
-ghost use Rattle.containment_laws.specs.Reach.{reach_size};
-ghost use Rattle.containment_laws.specs.Rest.{is_at_rest};
-ghost use Rattle.rule_engine.specs.PreparedEvents.{IsPrepared, net_moment};
+ghost use Rattle.rule_machine.specs.Run.{beginning, beginning_with};
+ghost use Rattle.rule_engine.specs.ChoiceMoves.{verdict_of};
+ghost use Rattle.rule_engine.specs.DisturbanceReach.{StaysAtRest};
+ghost use Rattle.rule_engine.specs.EngineStates.{guard_at, IsAnswered, moment};
+ghost use Rattle.rule_engine.specs.EventReplies.{IsWithinBudget};
+ghost use Rattle.rule_engine.specs.PreparedEvents.{net_moment};
 
-use crate::charge::spent_after;
-use crate::engine::Engine;
+use crate::Derived;
+use crate::charge::totals_of;
 use crate::guard::{outcome, rule_enabled};
-use crate::rounds::{begin, follow};
-use crate::touched_nodes::cost_of;
-use enabled_set::EnabledSet;
+use enabled_set::{EnabledSet, Marks};
 use graph_store::{EdgeStore, GraphFault};
-use net_state::NetState;
+use net_state::{NetState, Observer};
 use registers::Registers;
 use round_counter::RoundCounter;
-use rule_machine::{Act, Base, Choice, Event, Listing, Node, Reply, Rules, Verdict, Want};
+use rule_machine::{Act, Base, Choice, Listing, Node, Rules, Verdict, Want};
 use std::alloc::Global;
 use std::marker::Model;
+use suitor_index::IndexedNet;
 
 /// A network under the rules `R`.
 /// Contracts see the network's state, the number of moves since the last accepted disturbance or the start,
@@ -45,13 +37,17 @@ use std::marker::Model;
 #[derive(Drop)]
 pub struct Net<R: Rules> {
     pub(crate) alloc: Global,
-    pub(crate) engine: Engine<R>,
+    pub(crate) net: NetState,
+    pub(crate) derived: Derived<R>,
+    pub(crate) chosen: Marks,
     pub(crate) spent: u32,
     pub(crate) rounds: Option<RoundCounter>,
 }
 
 impl<R: Rules> Model for Net<R> {
+    ghost use Rattle.rule_engine.specs.DerivedValues.{IsDerived};
     ghost use Rattle.rule_engine.specs.EngineStates.{moment};
+    ghost use Rattle.rule_engine.specs.Marks.{HasMarks};
     ghost use Rattle.rule_engine.specs.PreparedEvents.{NetView, net_code};
     ghost use Rattle.rule_engine.specs.Rounds.{IsCountedMoment, counting_in};
 
@@ -59,9 +55,9 @@ impl<R: Rules> Model for Net<R> {
 
     ghost coded = { net_code };
 
-    ghost view = { λ n. record { state = n.engine.state; spent = n.spent; room = n.engine.room; counting = counting_in R.table n.engine.state n.rounds } };
+    ghost view = { λ n. record { state = n.net.state; spent = n.spent; room = n.net.room; counting = counting_in R.table n.net.state n.rounds } };
 
-    ghost invariant = { λ n. IsCountedMoment R.table R.NODE_WEIGHT (moment n.engine.state n.spent) n.rounds };
+    ghost invariant = { λ n. IsCountedMoment R.table R.NODE_WEIGHT (moment n.net.state n.spent) n.rounds × (IsDerived R.COURTS_HIGHER_ONLY R.COURTED_PAIR_CLOSES_EDGE R.table R.closes R.adds n.net n.derived.suitors.tallies.items n.derived.contributions.open_edges n.derived.contributions.each.items n.derived.contributions.lower_ends n.derived.contributions.stale n.derived.enabled × HasMarks n.net.state n.chosen) };
 }
 
 impl<R: Rules> Net<R> {
@@ -87,13 +83,11 @@ impl<R: Rules> Net<R> {
         ensures small { OnOk result (nodes ≤ 65535) }
         ensures fault { IfErr result (λ fault. ExplainsGraphFault (nodes_fault nodes) fault) }
     {
-        let engine = Engine::with_present(alloc, nodes, present)?;
-        Ok(Net {
-            alloc,
-            engine,
-            spent: 0,
-            rounds: None,
-        })
+        let net = NetState::with_present(alloc, nodes, present)?;
+        match Net::of_state(alloc, net, 0) {
+            Ok(net) => Ok(net),
+            Err(_) => Err(GraphFault::Memory),
+        }
     }
 
     /// The network in a given state, after `spent` moves since the last accepted disturbance.
@@ -108,13 +102,38 @@ impl<R: Rules> Net<R> {
     {
         // Gives the prover `IsState`.
         let _ = net.registers();
-        let engine = Engine::of(alloc, net)?;
+        let derived = Derived::of(alloc, &net)?;
+        Net::with_derived(alloc, net, derived, spent)
+    }
+
+    pub(crate) fn with_derived(
+        alloc: Global,
+        net: NetState,
+        derived: Derived<R>,
+        spent: u32,
+    ) -> Result<Net<R>, Want>
+        requires budget { IsWithinBudget R.table R.NODE_WEIGHT (moment net.state spent) }
+        requires derived { ⟦<Derived<R> as Observer>⟧.fits net derived }
+        ensures moment { IfOk result (λ made. net_moment made ≡ moment net.state spent) }
+        ensures uncounted { IfOk result (λ made. made.counting ≡ None) }
+    {
+        let chosen = Marks::new(alloc, net.capacity())?;
         Ok(Net {
             alloc,
-            engine,
+            net,
+            derived,
+            chosen,
             spent,
             rounds: None,
         })
+    }
+
+    /// The network with its counts, for look-ups.
+    #[inline(always)]
+    pub(crate) fn index(&self) -> IndexedNet<'_, R>
+        ensures { result.state ≡ self.now.state }
+    {
+        IndexedNet::new(&self.net, &self.derived.suitors)
     }
 
     /// The edges.
@@ -122,7 +141,7 @@ impl<R: Rules> Net<R> {
         ensures network { result.now.network ≡ self.now.state.network }
         ensures room { result.now.room ≡ self.now.room }
     {
-        self.engine.net().store()
+        self.net.store()
     }
 
     /// The registers.
@@ -130,14 +149,14 @@ impl<R: Rules> Net<R> {
         ensures value { result.now ≡ self.now.state.registers }
         ensures state { IsState self.now.state }
     {
-        self.engine.net().registers()
+        self.net.registers()
     }
 
     /// The enabled nodes.
     pub fn enabled(&self) -> &EnabledSet
         ensures { members result.now ≡ enabled_names R.table self.now.state }
     {
-        self.engine.enabled()
+        &self.derived.enabled
     }
 
     /// Whether the network is silent: no rule is enabled. Constant time.
@@ -153,7 +172,7 @@ impl<R: Rules> Net<R> {
         ensures half { IsTrue result → (other : List (ℕ × ℕ)) → IsMatching self.now.state.network other → length other ≤ 2 * length (mutual_pairs self.now.state) }
         ensures only_stable { IsAnswered R.table.flags self.now.state → IsMaximalMatching self.now.state.network (mutual_pairs self.now.state) → IsTrue result }
     {
-        self.engine.is_quiet()
+        self.derived.enabled.count() == 0
     }
 
     /// The rule enabled at a node, if any; none at an absent node.
@@ -161,7 +180,7 @@ impl<R: Rules> Net<R> {
     pub fn guard(&self, v: Node) -> Option<Act>
         ensures { result ≡ guard_at R.table self.now.state v }
     {
-        rule_enabled(&self.engine.index(), v)
+        rule_enabled(&self.index(), v)
     }
 
     /// What the item at index `place` of a choice, from 0, would do alone.
@@ -174,7 +193,7 @@ impl<R: Rules> Net<R> {
         Verdict {
             place,
             node: item.node,
-            outcome: outcome(&self.engine.index(), item),
+            outcome: outcome(&self.index(), item),
         }
     }
 
@@ -187,21 +206,7 @@ impl<R: Rules> Net<R> {
         ensures settled { result ≡ 0 → IsStable R.table.flags self.old.state }
         ensures kept { self.new ≡ self.old }
     {
-        self.engine.charge()
-    }
-
-    /// The most that an event, carried out now, would add to the charge, in moves.
-    /// It bounds the growth of the charge, not the moves that follow: those may also use up charge that is
-    /// there already. Nothing changes.
-    /// 0 for a step, for a query, and for an event that would be refused.
-    /// Reads pointers and counts of the nodes that the event touches, whatever the size of the network.
-    pub fn cost_of(&self, event: &Event) -> u32
-        ensures cost { result ≡ disturbance_cost R.table R.cost self.now.state event.now }
-        ensures grows { BoundsGrowth R.table self.now.state self.now.spent event.now result }
-    {
-        // Called only for the contract: the state is sound.
-        let _ = self.engine.net();
-        cost_of(&self.engine.index(), event)
+        totals_of(&self.net, &mut self.derived).charge
     }
 
     /// Whether `v` is at rest: no rule is enabled at `v`, and none will be until a disturbance reaches `v`.
@@ -214,32 +219,7 @@ impl<R: Rules> Net<R> {
         ensures idle { IsTrue result → rule_at R.table self.now.state v ≡ None }
         ensures stays { IsTrue result → StaysAtRest R.table (net_moment self.now) v }
     {
-        self.engine.is_at_rest(v)
-    }
-
-    /// Whether an event, carried out now, would reach `v`. Nothing changes.
-    /// If `v` is at rest and the event would not reach `v`, then `v` stays at rest.
-    /// False for a step, for a query, and for an event that would be refused. Goes through the neighbours of
-    /// `v`.
-    pub fn would_reach(&self, event: &Event, v: Node) -> bool
-        ensures { result ≡ would_reach R.table self.now.state event.now v }
-    {
-        self.engine.would_reach(event, v)
-    }
-
-    /// The nodes, ascending, that an event, carried out now, would reach. Nothing changes.
-    /// A node at rest that is not in the list stays at rest.
-    /// The list is empty for a step, for a query, and for an event that would be refused. `AllocError` if
-    /// memory runs out.
-    /// Goes once through the neighbours of the nodes that the event names and of these nodes' partners.
-    pub fn reach_of(&self, event: &Event) -> Result<Vec<Node>, Want>
-        ensures reach { IfOk result (λ list. list.items ≡ reach_of R.table self.now.state event.now) }
-        ensures few { IfOk result (λ list. length list.items ≤ reach_size self.now.state event.now) }
-        ensures spares { IfOk result (λ list. Spares R.table self.now.state self.now.spent event.now list.items) }
-    {
-        // Called only for the contract: the state is sound.
-        let _ = self.engine.net();
-        self.engine.reach_of(event)
+        containment::is_at_rest(&self.net, R::FLAGS, v)
     }
 
     /// The base of the network after `number` entries: spent moves, each node's registers, and the edges.
@@ -249,9 +229,8 @@ impl<R: Rules> Net<R> {
         ensures base { IfOk result (λ base. base ≡ base_of number (net_moment self.now)) }
         ensures few { IfOk result (λ base. (length base.nodes ≤ 65535) × (length base.edges ≤ 1048576)) }
     {
-        let net = self.engine.net();
-        let nodes = net.list_places(self.alloc)?;
-        let edges = net.list_edges()?;
+        let nodes = self.net.list_places(self.alloc)?;
+        let edges = self.net.list_edges()?;
         Ok(Base {
             number,
             spent: self.spent,
@@ -267,161 +246,5 @@ impl<R: Rules> Net<R> {
         ensures bound { self.now.spent + R.table.charge self.now.state ≤ 2 * edge_count self.now.state.network + R.NODE_WEIGHT * node_count self.now.state.network }
     {
         self.spent
-    }
-
-    /// The reply that `apply` would give to an event. Takes all memory that carrying out the event needs.
-    /// `commit` then carries out the event and cannot fail. The state does not change. Errors are those of
-    /// `apply`.
-    /// Costs what `apply` costs, without the writes and without evaluating guards after the writes.
-    #[inline(always)]
-    pub fn prepare(&mut self, event: &Event) -> Result<Reply, Want>
-        ensures reply { IfOk result (λ reply. reply ≡ reply_of R.table self.old.state self.old.spent event.now) }
-        ensures prepared { IfOk result (λ reply. IsPrepared R.table self.new event.now reply) }
-        ensures kept { net_moment self.new ≡ net_moment self.old }
-        ensures counting { self.new.counting ≡ self.old.counting }
-        ensures want { OnErr result ((refusal_of R.table self.old.state event.now ≡ None) × IsTrue (takes_memory event.now)) }
-    {
-        let mut reply = Reply::Accepted;
-        self.prepare_into(event, &mut reply)?;
-        Ok(reply)
-    }
-
-    /// Like `prepare`, but writes the reply into `reply` instead of returning it.
-    /// If memory runs out, the value of `reply` is unspecified.
-    #[inline(always)]
-    pub fn prepare_into(&mut self, event: &Event, reply: &mut Reply) -> Result<(), Want>
-        ensures reply { OnOk result (reply.new ≡ reply_of R.table self.old.state self.old.spent event.now) }
-        ensures prepared { OnOk result (IsPrepared R.table self.new event.now reply.new) }
-        ensures kept { net_moment self.new ≡ net_moment self.old }
-        ensures counting { self.new.counting ≡ self.old.counting }
-        ensures want { OnErr result ((refusal_of R.table self.old.state event.now ≡ None) × IsTrue (takes_memory event.now)) }
-    {
-        self.engine.prepare(event, self.spent, reply)
-    }
-
-    /// Like `prepare` of a step, but takes the verdicts of the step's items. Evaluates no guard again.
-    /// `AllocError` if memory runs out, which can happen only if the step is not refused.
-    pub fn prepare_step(&mut self, choice: &Choice, verdicts: &[Verdict]) -> Result<Reply, Want>
-        requires { verdicts.now ≡ verdicts_of R.table self.old.state choice.now }
-        ensures reply { IfOk result (λ reply. reply ≡ reply_of R.table self.old.state self.old.spent (Step choice.now)) }
-        ensures prepared { IfOk result (λ reply. IsPrepared R.table self.new (Step choice.now) reply) }
-        ensures kept { net_moment self.new ≡ net_moment self.old }
-        ensures counting { self.new.counting ≡ self.old.counting }
-        ensures want { OnErr result (refusal_of R.table self.old.state (Step choice.now) ≡ None) }
-    {
-        self.engine.prepare_step(choice, verdicts)
-    }
-
-    /// Carries out an event, given the reply that was prepared for this event.
-    /// The network must not have changed since. Takes no memory. `apply` lists the guards that are evaluated
-    /// again.
-    #[inline(always)]
-    pub fn commit(&mut self, event: &Event, reply: &Reply)
-        requires { IsPrepared R.table self.old event.now reply.now }
-        ensures state { net_moment self.new ≡ moment_after R.table (net_moment self.old) event.now }
-        ensures machine { Answers R.table self.old.state self.old.spent event.now reply.now self.new.state }
-        ensures counting { self.new.counting ≡ next_counting R.table reply.now self.new.state self.old.counting }
-    {
-        begin(&mut self.rounds, &self.engine, reply);
-        self.engine.commit(event, reply);
-        self.spent = spent_after::<R>(self.engine.net().store(), self.spent, reply);
-        follow(&mut self.rounds, &self.engine, self.spent, reply);
-    }
-
-    /// Carries out an event (an edit, a fault, a step or a query), and returns the reply.
-    /// In a step each free target is the least allowed one.
-    /// `AllocError` if memory runs out; nothing has changed then. This can happen only if the event is not
-    /// refused, and never for `Unlink`, `Point`, `Flag`, `Join`, `Leave`, `Show` and `Status`.
-    ///
-    /// The guards that are evaluated again:
-    ///
-    /// | change | nodes |
-    /// |---|---|
-    /// | an edge is added or removed | the edge's two ends |
-    /// | a node's register is written | the node, and each neighbour that points at the node |
-    /// | a node's pointer is written | also the old and the new target, each if it points nowhere |
-    /// | a write opens or closes a node | also neighbours that point nowhere and see no other open node |
-    /// | a name becomes a node | that node |
-    ///
-    /// In the fourth case counts stored at each neighbour decide. A step also looks at each chosen node, and
-    /// sorts the moves unless they ascend already. `Matching` and `Status` look at each node whose
-    /// contribution may have changed since the last such query. They also look at the node's neighbours if
-    /// the node's effect on its edges changed or several nodes point at the node.
-    pub fn apply(&mut self, event: &Event) -> Result<Reply, Want>
-        ensures reply { IfOk result (λ reply. reply ≡ reply_of R.table self.old.state self.old.spent event.now) }
-        ensures state { OnOk result (net_moment self.new ≡ moment_after R.table (net_moment self.old) event.now) }
-        ensures machine { IfOk result (λ reply. Answers R.table self.old.state self.old.spent event.now reply self.new.state) }
-        ensures counting { IfOk result (λ reply. self.new.counting ≡ next_counting R.table reply self.new.state self.old.counting) }
-        ensures kept { OnErr result (net_moment self.new ≡ net_moment self.old) }
-        ensures kept_counting { OnErr result (self.new.counting ≡ self.old.counting) }
-        ensures want { OnErr result ((refusal_of R.table self.old.state event.now ≡ None) × IsTrue (takes_memory event.now)) }
-    {
-        let mut reply = Reply::Accepted;
-        self.apply_into(event, &mut reply)?;
-        Ok(reply)
-    }
-
-    /// Like `apply`, but writes the reply into `reply` instead of returning it.
-    /// If memory runs out, the value of `reply` is unspecified.
-    #[inline(always)]
-    pub fn apply_into(&mut self, event: &Event, reply: &mut Reply) -> Result<(), Want>
-        ensures reply { OnOk result (reply.new ≡ reply_of R.table self.old.state self.old.spent event.now) }
-        ensures state { OnOk result (net_moment self.new ≡ moment_after R.table (net_moment self.old) event.now) }
-        ensures machine { OnOk result (Answers R.table self.old.state self.old.spent event.now reply.new self.new.state) }
-        ensures counting { OnOk result (self.new.counting ≡ next_counting R.table reply.new self.new.state self.old.counting) }
-        ensures kept { OnErr result (net_moment self.new ≡ net_moment self.old) }
-        ensures kept_counting { OnErr result (self.new.counting ≡ self.old.counting) }
-        ensures want { OnErr result ((refusal_of R.table self.old.state event.now ≡ None) × IsTrue (takes_memory event.now)) }
-    {
-        self.prepare_into(event, reply)?;
-        self.commit(event, reply);
-        Ok(())
-    }
-
-    /// Carries out events one after another, as a run of the rule machine, and returns the replies.
-    /// `AllocError` if memory runs out. If an event needed the memory, all events before that event have
-    /// been carried out. If the list of replies needed the memory, no event has been carried out.
-    pub fn apply_all(&mut self, events: &[Event]) -> Result<Listing<Reply>, Want>
-        ensures replies { IfOk result (λ replies. replies ≡ replies_of R.table self.old.state self.old.spent events.now) }
-        ensures state { OnOk result (net_moment self.new ≡ moment_after_all R.table (net_moment self.old) events.now) }
-        ensures counting { OnOk result (self.new.counting ≡ counting_after_all R.table (net_moment self.old) events.now self.old.counting) }
-        ensures run { IfOk result (λ replies. Run R.table (net_moment self.old) (zip events.now replies) (net_moment self.new)) }
-        ensures err { OnErr result ((k : ℕ) × StopsForMemory R.table (net_moment self.old) events.now k (net_moment self.new) × (self.new.counting ≡ counting_after_all R.table (net_moment self.old) (take k events.now) self.old.counting)) }
-    {
-        let mut replies = Vec::with_capacity(self.alloc, events.len())?;
-        for event in events {
-            match self.apply(event) {
-                Ok(reply) => replies.push(reply).unwrap(),
-                Err(want) => return Err(want),
-            }
-        }
-        Ok(Listing::from_vec(replies))
-    }
-
-    /// Carries out a step from the verdicts of the step's items, with the result and errors of `apply`.
-    /// Evaluates no guard again to find the reply.
-    pub fn apply_step(&mut self, choice: &Choice, verdicts: &[Verdict]) -> Result<Reply, Want>
-        requires { verdicts.now ≡ verdicts_of R.table self.old.state choice.now }
-        ensures reply { IfOk result (λ reply. reply ≡ reply_of R.table self.old.state self.old.spent (Step choice.now)) }
-        ensures state { OnOk result (net_moment self.new ≡ moment_after R.table (net_moment self.old) (Step choice.now)) }
-        ensures counting { IfOk result (λ reply. self.new.counting ≡ next_counting R.table reply self.new.state self.old.counting) }
-        ensures kept { OnErr result (net_moment self.new ≡ net_moment self.old) }
-        ensures kept_counting { OnErr result (self.new.counting ≡ self.old.counting) }
-        ensures want { OnErr result (refusal_of R.table self.old.state (Step choice.now) ≡ None) }
-    {
-        let reply = self.prepare_step(choice, verdicts)?;
-        self.commit_step(choice, &reply);
-        Ok(reply)
-    }
-
-    fn commit_step(&mut self, choice: &Choice, reply: &Reply)
-        requires { IsPrepared R.table self.old (Step choice.now) reply.now }
-        ensures state { net_moment self.new ≡ moment_after R.table (net_moment self.old) (Step choice.now) }
-        ensures counting { self.new.counting ≡ next_counting R.table reply.now self.new.state self.old.counting }
-    {
-        begin(&mut self.rounds, &self.engine, reply);
-        self.engine.commit_step(choice, reply);
-        self.spent = spent_after::<R>(self.engine.net().store(), self.spent, reply);
-        follow(&mut self.rounds, &self.engine, self.spent, reply);
     }
 }

@@ -2,31 +2,38 @@
 
 ghost use Rattle.std.specs.Prelude.{◌≡◌, ◌≤◌, IfOk, length};
 ghost use Rattle.containment_laws.specs.Reach.{reach_size};
-ghost use Rattle.rule_engine.specs.DisturbanceReach.{would_reach, reach_of};
+ghost use Rattle.rule_engine.specs.DisturbanceReach.{would_reach, reach_of, Spares};
 
+use crate::Net;
 use crate::touched_nodes::is_disturbance;
 use rule_machine::{Event, Node, Rules, Want};
-use std::alloc::Global;
-use suitor_index::IndexedNet;
 
-pub(crate) fn would_reach<R: Rules>(state: &IndexedNet<'_, R>, event: &Event, v: Node) -> bool
-    ensures { result ≡ would_reach R.table state.now.state event.now v }
-{
-    is_disturbance(state, event) && containment::is_in_reach(state.net(), event, v)
-}
-
-pub(crate) fn reach_of<R: Rules>(
-    alloc: Global,
-    state: &IndexedNet<'_, R>,
-    event: &Event,
-) -> Result<Vec<Node>, Want>
-    ensures reach { IfOk result (λ list. list.items ≡ reach_of R.table state.now.state event.now) }
-    ensures few { IfOk result (λ list. length list.items ≤ reach_size state.now.state event.now) }
-{
-    // Called only for the contract: the state is sound.
-    let _ = state.registers();
-    if !is_disturbance(state, event) {
-        return Ok(Vec::new(alloc));
+impl<R: Rules> Net<R> {
+    /// Whether an event, carried out now, would reach `v`. Nothing changes.
+    /// If `v` is at rest and the event would not reach `v`, then `v` stays at rest.
+    /// False for a step, for a query, and for an event that would be refused. Goes through the neighbours of
+    /// `v`.
+    pub fn would_reach(&self, event: &Event, v: Node) -> bool
+        ensures { result ≡ would_reach R.table self.now.state event.now v }
+    {
+        is_disturbance(&self.index(), event) && containment::is_in_reach(&self.net, event, v)
     }
-    containment::list_reach(alloc, state.net(), event)
+
+    /// The nodes, ascending, that an event, carried out now, would reach. Nothing changes.
+    /// A node at rest that is not in the list stays at rest.
+    /// The list is empty for a step, for a query, and for an event that would be refused. `AllocError` if
+    /// memory runs out.
+    /// Goes once through the neighbours of the nodes that the event names and of these nodes' partners.
+    pub fn reach_of(&self, event: &Event) -> Result<Vec<Node>, Want>
+        ensures reach { IfOk result (λ list. list.items ≡ reach_of R.table self.now.state event.now) }
+        ensures few { IfOk result (λ list. length list.items ≤ reach_size self.now.state event.now) }
+        ensures spares { IfOk result (λ list. Spares R.table self.now.state self.now.spent event.now list.items) }
+    {
+        // Called only for the contract: the state is sound.
+        let _ = self.registers();
+        if !is_disturbance(&self.index(), event) {
+            return Ok(Vec::new(self.alloc));
+        }
+        containment::list_reach(self.alloc, &self.net, event)
+    }
 }

@@ -1,6 +1,7 @@
 //! Updates the set of enabled nodes after a change of the network.
 
 ghost use Rattle.std.specs.Prelude.{◌≡◌, ◌+◌, ◌||◌, List, Bool, false, length, nat_eq, IfSome, IsTrue};
+ghost use Rattle.enabled_set.specs.RemovedNames.{KeepsNotes};
 ghost use Rattle.net_state.specs.declared.change.Change.TheVariants.{Pointed, Flagged, Joined};
 ghost use Rattle.rule_machine.specs.Network.{present};
 ghost use Rattle.rule_engine.specs.EngineStates.{AreOn};
@@ -9,7 +10,7 @@ ghost use Rattle.rule_engine.specs.GuardRefresh.{IsRefreshed};
 ghost use Rattle.suitor_index.specs.TurnedGuards.{TurnsNone};
 
 use crate::look::{look_after_write, look_at, look_at_target};
-use enabled_set::EnabledSet;
+use enabled_set::{EnabledSet, Removals};
 use net_state::Change;
 use rule_machine::{Node, Rules};
 use suitor_index::IndexedNet;
@@ -17,6 +18,7 @@ use suitor_index::IndexedNet;
 fn pointed<R: Rules>(
     state: &IndexedNet<'_, R>,
     enabled: &mut EnabledSet,
+    removals: &mut Removals,
     v: Node,
     was: Option<Node>,
     is: Option<Node>,
@@ -28,16 +30,18 @@ fn pointed<R: Rules>(
     requires is { IfSome is (λ w. IsTrue (present state.now.state.network w)) }
     requires places { length enabled.old ≡ state.now.state.network.size + 1 }
     requires none { turned ≡ false → TurnsNone R.COURTS_HIGHER_ONLY R.table.opens state.now.state (Pointed v was is) }
-    ensures { AreOn R.table state.now.state enabled.new }
+    ensures set { AreOn R.table state.now.state enabled.new }
+    ensures noted { KeepsNotes enabled.old removals.old enabled.new removals.new }
 {
-    look_at_target(state, enabled, was);
-    look_at_target(state, enabled, is);
-    look_after_write(state, enabled, v, turned);
+    look_at_target(state, enabled, removals, was);
+    look_at_target(state, enabled, removals, is);
+    look_after_write(state, enabled, removals, v, turned);
 }
 
 fn flagged<R: Rules>(
     state: &IndexedNet<'_, R>,
     enabled: &mut EnabledSet,
+    removals: &mut Removals,
     v: Node,
     was: bool,
     is: bool,
@@ -47,28 +51,42 @@ fn flagged<R: Rules>(
     requires here { IsTrue (present state.now.state.network v) }
     requires places { length enabled.old ≡ state.now.state.network.size + 1 }
     requires none { turned ≡ false → TurnsNone R.COURTS_HIGHER_ONLY R.table.opens state.now.state (Flagged v was is) }
-    ensures { AreOn R.table state.now.state enabled.new }
+    ensures set { AreOn R.table state.now.state enabled.new }
+    ensures noted { KeepsNotes enabled.old removals.old enabled.new removals.new }
 {
-    look_after_write(state, enabled, v, turned);
+    look_after_write(state, enabled, removals, v, turned);
 }
 
-fn look_at_ends<R: Rules>(state: &IndexedNet<'_, R>, enabled: &mut EnabledSet, a: Node, b: Node)
+fn look_at_ends<R: Rules>(
+    state: &IndexedNet<'_, R>,
+    enabled: &mut EnabledSet,
+    removals: &mut Removals,
+    a: Node,
+    b: Node,
+)
     requires has_a { IsTrue (present state.now.state.network a) }
     requires has_b { IsTrue (present state.now.state.network b) }
     requires places { length enabled.old ≡ state.now.state.network.size + 1 }
-    ensures { IsRefreshed R.table state.now.state (λ w. nat_eq w a || nat_eq w b) enabled.old enabled.new }
+    ensures set { IsRefreshed R.table state.now.state (λ w. nat_eq w a || nat_eq w b) enabled.old enabled.new }
+    ensures noted { KeepsNotes enabled.old removals.old enabled.new removals.new }
 {
-    look_at(state, enabled, a);
-    look_at(state, enabled, b);
+    look_at(state, enabled, removals, a);
+    look_at(state, enabled, removals, b);
 }
 
-fn joined<R: Rules>(state: &IndexedNet<'_, R>, enabled: &mut EnabledSet, v: Node)
+fn joined<R: Rules>(
+    state: &IndexedNet<'_, R>,
+    enabled: &mut EnabledSet,
+    removals: &mut Removals,
+    v: Node,
+)
     requires told { WereOn R.table enabled.old (Joined v) state.now }
     requires here { IsTrue (present state.now.state.network v) }
     requires places { length enabled.old ≡ state.now.state.network.size + 1 }
-    ensures { AreOn R.table state.now.state enabled.new }
+    ensures set { AreOn R.table state.now.state enabled.new }
+    ensures noted { KeepsNotes enabled.old removals.old enabled.new removals.new }
 {
-    look_at(state, enabled, v);
+    look_at(state, enabled, removals, v);
 }
 
 /// Evaluates guards again at the nodes whose guard the change may have changed.
@@ -80,19 +98,21 @@ fn joined<R: Rules>(state: &IndexedNet<'_, R>, enabled: &mut EnabledSet, v: Node
 pub(crate) fn refresh<R: Rules>(
     state: &IndexedNet<'_, R>,
     enabled: &mut EnabledSet,
+    removals: &mut Removals,
     change: Change,
     turned: bool,
 )
     requires told { WereOn R.table enabled.old change state.now }
     requires none { turned ≡ false → TurnsNone R.COURTS_HIGHER_ONLY R.table.opens state.now.state change }
-    ensures { AreOn R.table state.now.state enabled.new }
+    ensures set { AreOn R.table state.now.state enabled.new }
+    ensures noted { KeepsNotes enabled.old removals.old enabled.new removals.new }
 {
     match change {
-        Change::Pointed(v, was, is) => pointed(state, enabled, v, was, is, turned),
-        Change::Flagged(v, was, is) => flagged(state, enabled, v, was, is, turned),
-        Change::Linked(a, b) => look_at_ends(state, enabled, a, b),
-        Change::Unlinked(a, b) => look_at_ends(state, enabled, a, b),
-        Change::Joined(v) => joined(state, enabled, v),
-        Change::Removed(v) => enabled.remove(v),
+        Change::Pointed(v, was, is) => pointed(state, enabled, removals, v, was, is, turned),
+        Change::Flagged(v, was, is) => flagged(state, enabled, removals, v, was, is, turned),
+        Change::Linked(a, b) => look_at_ends(state, enabled, removals, a, b),
+        Change::Unlinked(a, b) => look_at_ends(state, enabled, removals, a, b),
+        Change::Joined(v) => joined(state, enabled, removals, v),
+        Change::Removed(v) => enabled.remove_noted(v, removals),
     }
 }

@@ -41,7 +41,7 @@ impl<R: SilentCost> Net<R> {
         // Called only for the contract: the state is sound.
         let _ = self.registers();
         if self.is_quiet() {
-            Some(silent_cost_of(&self.engine.index(), event))
+            Some(silent_cost_of(&self.index(), event))
         } else {
             None
         }

@@ -1,8 +1,9 @@
 //! What a disturbance would cost.
 
 ghost use Rattle.std.specs.Prelude.{◌≡◌};
-ghost use Rattle.rule_engine.specs.Costs.{disturbs, disturbance_cost};
+ghost use Rattle.rule_engine.specs.Costs.{BoundsGrowth, disturbs, disturbance_cost};
 
+use crate::Net;
 use crate::edits::{refused_flag, refused_join, refused_leave, refused_point};
 use rule_machine::{Event, Local, Node, Rules, Touched};
 use suitor_index::IndexedNet;
@@ -22,7 +23,7 @@ impl<R: Rules> Touched for TouchedNodes<'_, R> {
         state.registers().pointer(v)
     }
 
-    #[tactic(auto, using(net_totals::proofs::NodeScans::few_neighbours))]
+    #[tactic(auto, using(net_state::proofs::EdgeCounts::few_neighbours))]
     fn degree(&self, v: Node) -> u32 {
         let state = self.state;
         state.store().neighbours(v).len() as u32
@@ -50,15 +51,24 @@ pub(crate) fn is_disturbance<R: Rules>(state: &IndexedNet<'_, R>, event: &Event)
     }
 }
 
-#[tactic(auto, using(crate::proofs::EventCosts::not_refused))]
-pub(crate) fn cost_of<R: Rules>(state: &IndexedNet<'_, R>, event: &Event) -> u32
-    ensures { result ≡ disturbance_cost R.table R.cost state.now.state event.now }
-{
-    // Called only for the contract: the state is sound.
-    let _ = state.registers();
-    if is_disturbance(state, event) {
-        R::cost(&TouchedNodes { state }, event)
-    } else {
-        0
+impl<R: Rules> Net<R> {
+    /// The most that an event, carried out now, would add to the charge, in moves.
+    /// It bounds the growth of the charge, not the moves that follow: those may also use up charge that is
+    /// there already. Nothing changes.
+    /// 0 for a step, for a query, and for an event that would be refused.
+    /// Reads pointers and counts of the nodes that the event touches, whatever the size of the network.
+    #[tactic(auto, using(crate::proofs::EventCosts::not_refused))]
+    pub fn cost_of(&self, event: &Event) -> u32
+        ensures cost { result ≡ disturbance_cost R.table R.cost self.now.state event.now }
+        ensures grows { BoundsGrowth R.table self.now.state self.now.spent event.now result }
+    {
+        // Called only for the contract: the state is sound.
+        let _ = self.registers();
+        let state = self.index();
+        if is_disturbance(&state, event) {
+            R::cost(&TouchedNodes { state: &state }, event)
+        } else {
+            0
+        }
     }
 }

@@ -21,13 +21,13 @@ fn pair_cost(net: &NetState, v: Node, partner: Node, target: Option<Node>) -> u3
     ensures { result ≡ silent_point_cost net.now.state v (Some partner) target }
 {
     let Some(w) = target else {
-        return 2 * (unmarried_neighbours_but(net, v, None) + unmarried_neighbours(net, partner))
+        return 2 * (unmarried_neighbours_but(net, v, &None) + unmarried_neighbours(net, partner))
             + 1;
     };
     if partner == w {
         return 0;
     }
-    2 * (unmarried_neighbours_but(net, v, target) + unmarried_neighbours(net, partner)) + 4
+    2 * (unmarried_neighbours_but(net, v, &target) + unmarried_neighbours(net, partner)) + 4
 }
 
 #[tactic(auto, using(machine_laws::proofs::PresentNodes::target_present))]

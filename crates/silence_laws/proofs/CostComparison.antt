@@ -1,32 +1,29 @@
 -- The silent cost is compared with the table's cost, and rewriting a pointer changes nothing.
-use Rattle.silence_laws.proofs.Prelude.{◌≡◌, ℕ, zero, suc, ◌+◌, ◌*◌, ◌≤◌, Bool, true, false, cond, not, ◌&&◌, List, [], ◌∷◌, Option, None, Some, nat_eq, get_or, set, IsTrue, refl, ap, ◌∙◌, ⊎_elim, arith, and_from, cond-true, cond-false, cases_Bool, length-filter, Link, Unlink, Point, Leave, linked, names, State, IsState, is_at, is_unanswered, pointer, married, linked_back, linked_present, married_from, pointer_linked, points_from, hsu_huang_cost, hsu_huang_point_cost, sum_add, sum_agree, sum_le, degree, one_count, in_names, mutual_is, IsStable, is_single_but, silent_point_cost, single_neighbours, single_neighbours_but, SilentCostIsLess, RewritingChangesNothing}
+use Rattle.silence_laws.proofs.Prelude.{◌≡◌, ℕ, zero, suc, ◌+◌, ◌*◌, ◌≤◌, Bool, true, false, not, ◌&&◌, List, [], ◌∷◌, Option, None, Some, nat_eq, get_or, set, IsTrue, refl, ap, ◌∙◌, subst, ⊎_elim, arith, length, count_by, and_from, cond-true, cond-false, cases_Bool, not_from_false, length-filter, count_within, count_split, count_le, IsWithoutRepeats, IsIn, count_all, in_names, hsu_huang_cost, hsu_huang_point_cost, degree, mutual_is, linked_back, linked_present, married_from, pointer_linked, points_from, linked, names, IsStable, State, IsState, is_at, is_unanswered, pointer, married, Link, Unlink, Point, Leave, is_single_but, silent_point_cost, single_neighbours, single_neighbours_but, SilentCostIsLess, RewritingChangesNothing}
 use Rattle.silence_laws.proofs.UnreachedNodes.{answer_at, none_courted}
 
--- a married neighbour is none of the unmarried ones
-single_less : (s : State) → IsState s → (v w : ℕ) → IsTrue (linked s.network v w) → married s w ≡ true → single_neighbours s v + 1 ≤ degree s.network v
-single_less s good v w near wed =
-    let xs = names s.network in
-    let both = sum_add (λ x. cond (linked s.network v x && not (married s x)) 1 0) (λ x. cond (linked s.network v x && married s x) 1 0) xs in
-    let each = sum_agree (λ x. cond (linked s.network v x) 1 0) (λ x. cond (linked s.network v x && not (married s x)) 1 0 + cond (linked s.network v x && married s x) 1 0) (λ x. one (linked s.network v x) (married s x)) xs in
-    let some = one_count (λ x. linked s.network v x && married s x) xs w (in_names s.network w (linked_present s.network w v good.is_network (linked_back s.network w v ∙ near))) (and_from (linked s.network v w) (married s w) near wed) in
-    let all = length-filter (linked s.network v) xs in
-    omega (arith, both, each, some, all)
-  where
-    one : (l m : Bool) → ◌≡◌ {A = ℕ} (cond l 1 0) (cond (l && not m) 1 0 + cond (l && m) 1 0)
-    one l m = grind arith
+-- neighbours that pass a test are fewer than all by those of a list that do not
+pub others_few : (s : State) → IsState s → (v : ℕ) (p : ℕ → Bool) (ys : List ℕ) → IsWithoutRepeats ys → ((x : ℕ) → IsIn x ys → IsTrue (linked s.network v x) × (p x ≡ false)) → count_by (λ x. linked s.network v x && p x) (names s.network) + length ys ≤ degree s.network v
+others_few s good v p ys single out =
+    let others = count_within (λ x. true) (λ x. linked s.network v x && not (p x)) ys (names s.network) single (λ x there h.
+    let near = (out x there).0 in
+    (in_names s.network x (linked_present s.network x v good.is_network (linked_back s.network x v ∙ near)), and_from (linked s.network v x) (not (p x)) near (not_from_false (p x) (out x there).1))) in
+    omega (arith, others, count_all ys, count_split (linked s.network v) p (names s.network), length-filter (linked s.network v) (names s.network))
 
 pub partner_less : (s : State) → IsState s → (v w : ℕ) → pointer s v ≡ Some w → pointer s w ≡ Some v → single_neighbours s v + 1 ≤ degree s.network v
-partner_less s good v w at back = single_less s good v w (pointer_linked s v w good at) (married_from s w v good back at)
+partner_less s good v w at back =
+    others_few s good v (λ x. not (married s x)) (w ∷ []) ((λ none. none), tt) (λ x. ⊎_elim
+    (λ same. subst (λ y. IsTrue (linked s.network v y) × (not (married s y) ≡ false)) same (pointer_linked s v w good at, ap not (married_from s w v good back at)))
+    (λ none. absurd none))
 
--- nor is the one of a node with a partner that counts but one that a pointer is at
+-- fewer still if the new target does not count
 but_less : (s : State) → IsState s → (v w : ℕ) (target : Option ℕ) → pointer s v ≡ Some w → pointer s w ≡ Some v → single_neighbours_but s v target + 1 ≤ degree s.network v
 but_less s good v w target at back =
-    let less = partner_less s good v w at back in
-    let few = sum_le (λ x. cond (linked s.network v x && is_single_but s target x) 1 0) (λ x. cond (linked s.network v x && not (married s x)) 1 0) (names s.network) (λ x there. one (linked s.network v x) (not (married s x)) (not (is_at target x))) in
-    omega (arith, less, few)
+    let few = count_le (λ x. linked s.network v x && is_single_but s target x) (λ x. linked s.network v x && not (married s x)) (names s.network) (λ x there. one (linked s.network v x) (not (married s x)) (not (is_at target x))) in
+    omega (arith, partner_less s good v w at back, few)
   where
-    one : (l m a : Bool) → ◌≤◌ (cond (l && (m && a)) 1 0) (cond (l && m) 1 0)
-    one l m a = grind arith
+    one : (l m a : Bool) → (l && (m && a)) ≡ true → (l && m) ≡ true
+    one l m a h = grind arith
 
 -- ---- what the table of costs says of a pointer in a stable network
 

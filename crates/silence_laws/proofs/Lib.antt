@@ -1,7 +1,6 @@
 pub mod Prelude
-pub mod GainedPairs
-pub mod LeftPairs
 pub mod UnreachedNodes
+pub mod PairCounts
 pub mod OpenedEdges
 pub mod CostComparison
 pub mod TurnedPointers

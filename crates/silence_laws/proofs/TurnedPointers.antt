@@ -1,14 +1,20 @@
 -- Changing the pointer of a paired node in a stable network opens the edges of the two nodes to unmarried
 -- neighbours, and their own edge.
-use Rattle.silence_laws.proofs.Prelude.{◌≡◌, ℕ, ◌+◌, ◌*◌, ◌≤◌, Bool, true, false, cond, not, ◌&&◌, ◌||◌, [], ◌∷◌, count_by, Option, None, Some, is_some, nat_eq, IsTrue, refl, sym, ap, ◌∙◌, subst, inl, inr, ⊎_elim, arith, and_parts, and_from, or_left, or_cases, cases_Bool, cases_eq, not_from_false, length-filter, hsu_huang_charge, after_point, edge_list, linked, names, State, IsState, is_at, pointer, married, IsStable, linked_apart, linked_back, linked_present, married_from, pointer_linked, IsIn, count_all, count_into, sum_add, sum_agree, sum_le, degree, none_count, once, one_count, edges_contain, in_names, names_without_repeats, an_end_paired, hsu_huang_stable_is_zero, IsSubNetwork, WaitsOnly, IsSeen, seen, IsWritten, written_at, wed_stays, is_none, hsu_huang_grows, hsu_huang_closed, has_suitor, is_courted, awaits, married_is, is_single_but, single_neighbours, single_neighbours_but}
-use Rattle.silence_laws.proofs.OpenedEdges.{edges_few, is_edge_to, one_le, or_le}
+use Rattle.silence_laws.proofs.Prelude.{◌≡◌, ℕ, ◌+◌, ◌*◌, ◌≤◌, Bool, true, false, cond, not, ◌&&◌, List, [], ◌∷◌, Option, None, Some, nat_eq, IsTrue, refl, ap, ◌∙◌, subst, ⊎_elim, arith, ◌||◌, count_by, sym, inl, is_some, is_none, or_left, cases_eq, one_node, same_network, WaitsOnly, IsWritten, wed_stays, written_at, one_between, hsu_huang_grows, IsSeen, seen, count_or, IsIn, none_count, edges_contain, an_end_paired, hsu_huang_stable_is_zero, married_is, degree, linked_present, linked_apart, married_from, pointer_linked, awaits, is_courted, hsu_huang_closed, hsu_huang_charge, after_point, is_end, linked, names, edge_list, IsStable, State, IsState, has_suitor, is_at, pointer, married, is_single_but, single_neighbours, single_neighbours_but}
+use Rattle.silence_laws.proofs.OpenedEdges.{edges_few, is_edge_to}
+use Rattle.silence_laws.proofs.CostComparison.{others_few}
 use Rattle.silence_laws.proofs.UnreachedNodes.{answer_at}
 
+-- at most `most` pass if the test holds, else none
+count_if : {X : Type 0} (b : Bool) (p : X → Bool) (xs : List X) (most : ℕ) → count_by p xs ≤ most → count_by (λ x. b && p x) xs ≤ cond b most 0
+count_if true p xs most few = few
+count_if false p xs most few = omega (arith, none_count (λ x. false) xs (λ x there. refl))
+
 -- what an untouched edge implies
-untouched : (v u : ℕ) (f g : ℕ → Bool) (b : Bool) (x y : ℕ) → (is_edge_to f v (x, y) || (is_edge_to g u (x, y) || (b && is_edge_to (nat_eq u) v (x, y)))) ≡ false → (x ≡ v → f y ≡ false) × (x ≡ u → g y ≡ false) × (x ≡ v → y ≡ u → b ≡ false) × (x ≡ u → y ≡ v → b ≡ false)
+untouched : (v u : ℕ) (f g : ℕ → Bool) (b : Bool) (x y : ℕ) → (is_edge_to f v (x, y) || (is_edge_to g u (x, y) || (b && (is_end v (x, y) && is_end u (x, y))))) ≡ false → (x ≡ v → f y ≡ false) × (x ≡ u → g y ≡ false) × (x ≡ v → y ≡ u → b ≡ false) × (x ≡ u → y ≡ v → b ≡ false)
 untouched v u f g b x y h = grind arith
 
-both_ways_touched : (v u : ℕ) (f g : ℕ → Bool) (b : Bool) (x y : ℕ) → (is_edge_to f v (x, y) || (is_edge_to g u (x, y) || (b && is_edge_to (nat_eq u) v (x, y)))) ≡ false → (is_edge_to f v (y, x) || (is_edge_to g u (y, x) || (b && is_edge_to (nat_eq u) v (y, x)))) ≡ false
+both_ways_touched : (v u : ℕ) (f g : ℕ → Bool) (b : Bool) (x y : ℕ) → (is_edge_to f v (x, y) || (is_edge_to g u (x, y) || (b && (is_end v (x, y) && is_end u (x, y))))) ≡ false → (is_edge_to f v (y, x) || (is_edge_to g u (y, x) || (b && (is_end v (y, x) && is_end u (y, x))))) ≡ false
 both_ways_touched v u f g b x y h = grind arith
 
 -- in pointers alone; m is married, c has a suitor
@@ -48,7 +54,7 @@ module _ (s : State) (v u : ℕ) (target : Option ℕ) (good : IsState s) (stabl
 
   -- the edge of the two themselves, which stays closed if v points nowhere now: its partner awaits it
   abbrev pub own : ℕ × ℕ → Bool
-  own e = is_some target && is_edge_to (nat_eq u) v e
+  own e = is_some target && (is_end v e && is_end u e)
 
   abbrev touched : ℕ × ℕ → Bool
   touched e = is_edge_to far v e || (is_edge_to single u e || own e)
@@ -73,96 +79,39 @@ module _ (s : State) (v u : ℕ) (target : Option ℕ) (good : IsState s) (stabl
 
   -- the edge of the two is one, and none is touched if v points nowhere now
   pub own_few : count_by own (edge_list s'.network) ≤ cond (is_some target) 1 0
-  own_few =
-      let es = edge_list s.network in
-      let xs = names s.network in
-      let few = edges_few s s' good good' (record { edges = λ e h. h; nodes = λ x h. h }) (nat_eq u) v in
-      let one = once u xs (names_without_repeats s.network) in
-      let le = sum_le (λ x. cond (linked s.network v x && nat_eq u x) 1 0) (λ x. cond (nat_eq u x) 1 0) xs (λ x there. one_le (linked s.network v x && nat_eq u x) (nat_eq u x) (λ h. (and_parts (linked s.network v x) (nat_eq u x) h).1)) in
-      ⊎_elim
-      (λ some.
-      let all = sum_le (λ e. cond (own e) 1 0) (λ e. cond (is_edge_to (nat_eq u) v e) 1 0) es (λ e there. one_le (own e) (is_edge_to (nat_eq u) v e) (λ h. (and_parts (is_some target) (is_edge_to (nat_eq u) v e) h).1)) in
-      let is = ap {B = ℕ} (λ b. cond b 1 0) some in
-      omega (arith, all, few, le, one, is))
-      (λ none.
-      let zero = none_count own es (λ e there. ap (λ b. b && is_edge_to (nat_eq u) v e) none) in
-      omega (arith, zero))
-      (cases_Bool (is_some target))
+  own_few = count_if (is_some target) (λ e. is_end v e && is_end u e) (edge_list s.network) 1 (one_between s.network good.is_network v u (linked_apart s.network v u good.is_network near_u))
 
   pub marked_few : count_by marked (names s'.network) ≤ cond (is_some target) 1 0 + 1
   marked_few =
-      let xs = names s.network in
-      let two = sum_le (λ x. cond (marked x) 1 0) (λ x. cond (is_some target && nat_eq v x) 1 0 + cond (nat_eq u x) 1 0) xs (λ x there. or_le (marked x) (is_some target && nat_eq v x) (nat_eq u x) (or_cases (is_some target && nat_eq v x) (nat_eq u x))) in
-      let sum = sum_add (λ x. cond (is_some target && nat_eq v x) 1 0) (λ x. cond (nat_eq u x) 1 0) xs in
-      let also = once u xs (names_without_repeats s.network) in
-      ⊎_elim
-      (λ some.
-      let all = sum_le (λ x. cond (is_some target && nat_eq v x) 1 0) (λ x. cond (nat_eq v x) 1 0) xs (λ x there. one_le (is_some target && nat_eq v x) (nat_eq v x) (λ h. (and_parts (is_some target) (nat_eq v x) h).1)) in
-      let one = once v xs (names_without_repeats s.network) in
-      let is = ap {B = ℕ} (λ b. cond b 1 0) some in
-      omega (arith, two, sum, also, all, one, is))
-      (λ none.
-      let zero = none_count (λ x. is_some target && nat_eq v x) xs (λ x there. ap (λ b. b && nat_eq v x) none) in
-      omega (arith, two, sum, also, zero))
-      (cases_Bool (is_some target))
+      let here = count_if (is_some target) (nat_eq v) (names s.network) 1 (one_node s.network v) in
+      omega (arith, count_or (λ x. is_some target && nat_eq v x) (nat_eq u) (names s.network), here, one_node s.network u)
 
   pub turned_few : hsu_huang_charge s' ≤ 2 * (single_neighbours_but s v target + single_neighbours s u) + 3 * cond (is_some target) 1 0 + 1
   turned_few =
       let es = edge_list s.network in
-      let within : IsSubNetwork s.network s'.network = record { edges = λ e h. h; nodes = λ x h. h } in
       let grows = hsu_huang_grows s s' touched marked (λ x y there clear. (there, λ was. closed x y there clear)) waits (λ x there. inl there) in
-      let zero = hsu_huang_stable_is_zero s good stable in
-      let le = sum_le (λ e. cond (touched e) 1 0) (λ e. cond (is_edge_to far v e) 1 0 + cond (is_edge_to single u e || own e) 1 0) es (λ e there. or_le (touched e) (is_edge_to far v e) (is_edge_to single u e || own e) (or_cases (is_edge_to far v e) (is_edge_to single u e || own e))) in
-      let both = sum_add (λ e. cond (is_edge_to far v e) 1 0) (λ e. cond (is_edge_to single u e || own e) 1 0) es in
-      let le_rest = sum_le (λ e. cond (is_edge_to single u e || own e) 1 0) (λ e. cond (is_edge_to single u e) 1 0 + cond (own e) 1 0) es (λ e there. or_le (is_edge_to single u e || own e) (is_edge_to single u e) (own e) (or_cases (is_edge_to single u e) (own e))) in
-      let both_rest = sum_add (λ e. cond (is_edge_to single u e) 1 0) (λ e. cond (own e) 1 0) es in
-      let first = edges_few s s' good good' within far v in
-      let next = edges_few s s' good good' within single u in
-      let last = own_few in
-      let marks = marked_few in
-      omega (arith, grows, zero, le, both, le_rest, both_rest, first, next, last, marks)
+      let both = count_or (is_edge_to far v) (λ e. is_edge_to single u e || own e) es in
+      let rest = count_or (is_edge_to single u) own es in
+      omega (arith, grows, hsu_huang_stable_is_zero s good stable, both, rest, edges_few s s' good (same_network s.network) far v, edges_few s s' good (same_network s.network) single u, own_few, marked_few)
 
   -- v has a neighbour, and a second one if that is its new target; neither counts
   pub far_few : count_by (λ x. linked s.network v x && far x) (names s.network) + 1 + cond (is_some target) 1 0 ≤ degree s.network v
-  far_few =
-      let xs = names s.network in
-      let both = sum_add (λ x. cond (linked s.network v x && far x) 1 0) (λ x. cond (linked s.network v x && not (far x)) 1 0) xs in
-      let each = sum_agree (λ x. cond (linked s.network v x) 1 0) (λ x. cond (linked s.network v x && far x) 1 0 + cond (linked s.network v x && not (far x)) 1 0) (λ x. one (linked s.network v x) (far x)) xs in
-      let all = length-filter (linked s.network v) xs in
-      let some = enough target refl in
-      omega (arith, both, each, some, all)
+  far_few = by target refl
     where
-      one : (l m : Bool) → ◌≡◌ {A = ℕ} (cond l 1 0) (cond (l && m) 1 0 + cond (l && not m) 1 0)
-      one l m = grind arith
+      wed : far u ≡ false
+      wed = ap (λ b. not b && not (is_at target u)) (married_from s u v good back at)
 
-      passes : (x : ℕ) → IsTrue (linked s.network v x) → far x ≡ false → (linked s.network v x && not (far x)) ≡ true
-      passes x joins out = and_from (linked s.network v x) (not (far x)) joins (not_from_false (far x) out)
+      aimed : (m : Bool) (o : Option ℕ) (w : ℕ) → o ≡ Some w → (m && not (is_at o w)) ≡ false
+      aimed m o w e = grind arith
 
-      partner_passes : (linked s.network v u && not (far u)) ≡ true
-      partner_passes = passes u near_u (ap (λ b. not b && not (is_at target u)) (married_from s u v good back at))
+      at_u : (x : ℕ) → u ≡ x → IsTrue (linked s.network v x) × (far x ≡ false)
+      at_u x same = subst (λ y. IsTrue (linked s.network v y) × (far y ≡ false)) same (near_u, wed)
 
-      own_end : (a : Bool) (o : Option ℕ) (w : ℕ) → o ≡ Some w → (a && not (is_at o w)) ≡ false
-      own_end a o w e = grind arith
+      at_target : (w x : ℕ) → target ≡ Some w → w ≡ x → IsTrue (linked s.network v x) × (far x ≡ false)
+      at_target w x e same = subst (λ y. IsTrue (linked s.network v y) × (far y ≡ false)) same (near w e, aimed (not (married s w)) target w e)
 
-      enough : (o : Option ℕ) → target ≡ o → 1 + cond (is_some target) 1 0 ≤ count_by (λ x. linked s.network v x && not (far x)) (names s.network)
-      enough None e =
-          let some = one_count (λ x. linked s.network v x && not (far x)) (names s.network) u (in_names s.network u (linked_present s.network u v good.is_network (linked_back s.network u v ∙ near_u))) partner_passes in
-          let is = ap {B = ℕ} (λ p. cond (is_some p) 1 0) e in
-          omega (arith, some, is)
-      enough (Some w) e =
-          let two = count_into (λ (x : ℕ). true) (u ∷ w ∷ []) (λ x. x) (λ x. linked s.network v x && not (far x)) (names s.network) (distinct, ((λ none. none), tt)) (record {
-            lands = λ x there h. in_names s.network x (linked_present s.network x v good.is_network (linked_back s.network x v ∙ (and_parts (linked s.network v x) (not (far x)) (either x there)).0));
-            passes = λ x there h. either x there;
-            apart = λ x y there also h k e. e;
-          }) in
-          let pair = count_all {X = ℕ} (u ∷ w ∷ []) in
-          let is = ap {B = ℕ} (λ p. cond (is_some p) 1 0) e in
-          omega (arith, two, pair, is)
-        where
-          distinct : IsIn u (w ∷ []) → ⊥
-          distinct b0 = grind arith
-
-          either : (x : ℕ) → IsIn x (u ∷ w ∷ []) → (linked s.network v x && not (far x)) ≡ true
-          either x (inl f) = subst (λ y. (linked s.network v y && not (far y)) ≡ true) f partner_passes
-          either x (inr (inl f)) = subst (λ y. (linked s.network v y && not (far y)) ≡ true) f (passes w (near w e) (own_end (not (married s w)) target w e))
-          either x (inr (inr none)) = absurd none
+      by : (o : Option ℕ) → target ≡ o → count_by (λ x. linked s.network v x && far x) (names s.network) + 1 + cond (is_some o) 1 0 ≤ degree s.network v
+      by None e = omega (arith, others_few s good v far (u ∷ []) ((λ none. none), tt) (λ x. ⊎_elim (at_u x) (λ none. absurd none)))
+      by (Some w) e =
+          let apart : IsIn u (w ∷ []) → ⊥ = ⊎_elim (λ same. turned (e ∙ ap Some same)) (λ none. none) in
+          omega (arith, others_few s good v far (u ∷ w ∷ []) (apart, ((λ none. none), tt)) (λ x. ⊎_elim (at_u x) (⊎_elim (at_target w x e) (λ none. absurd none))))

@@ -1,5 +1,5 @@
 -- In a stable network no node waits, and a disturbance that reaches no node leaves it stable.
-use Rattle.silence_laws.proofs.Prelude.{◌≡◌, ℕ, Bool, false, None, Some, IfSome, subst, true≢false, and_parts, or_cases, cases_Bool, false_from_ne_true, none-some, Event, Accepted, hsu_huang_charge, hsu_huang, State, IsState, has_suitor, is_unanswered, pointer, points, IsStable, Answers, near_fails, points_from, points_true, suitor_some, answers_keep, hsu_huang_stable_is_zero, hsu_huang_table, all_rest, rest_is_stable, disturbed_rests, is_hit, is_in_reach, is_parted, NobodyWaits, arith}
+use Rattle.silence_laws.proofs.Prelude.{◌≡◌, ℕ, Bool, false, Option, None, Some, IfSome, refl, subst, arith, cases_Bool, true≢false, and_parts, or_cases, false_from_ne_true, none-some, hsu_huang_stable_is_zero, hsu_huang_table, all_rest, rest_is_stable, disturbed_rests, is_hit, is_parted, is_in_reach, near_fails, points_from, points_true, suitor_some, answers_keep, AnswersBy, Answers, Does, hsu_huang_charge, hsu_huang, refusal_of, RuleTable, IsStable, State, IsState, has_suitor, is_unanswered, pointer, points, Event, Refusal, Accepted, NobodyWaits}
 
 -- ---- nobody waits
 
@@ -20,6 +20,14 @@ nobody_waits uses_flags s stable =
     (none_waits uses_flags s stable, none_courted uses_flags s stable, crossed_back uses_flags s stable)
 
 -- ---- nobody is reached
+
+-- what was accepted was not refused
+pub accepted : (t : RuleTable) (s : State) (spent : ℕ) (event : Event) (after : State) → Answers t s spent event Accepted after → (refusal_of t s event ≡ None) × Does t s spent event Accepted after
+accepted t s spent event after answers = by (refusal_of t s event) refl answers
+  where
+    by : (r : Option Refusal) → refusal_of t s event ≡ r → AnswersBy t s spent event r Accepted after → (refusal_of t s event ≡ None) × Does t s spent event Accepted after
+    by None e does = (e, does)
+    by (Some refusal) e does = absurd cc
 
 pub unreached_from : (s : State) (event : Event) → ((v : ℕ) → is_hit s event v ≡ false) → ((v : ℕ) → is_parted s event v ≡ false) → (v : ℕ) → is_in_reach s event v ≡ false
 unreached_from s event calm kept v = grind (arith, false_from_ne_true, true≢false, or_cases, and_parts, near_fails)

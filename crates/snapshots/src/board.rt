@@ -4,7 +4,7 @@ ghost use Rattle.std.specs.Prelude.{◌≡◌, ◌+◌, ◌^◌, ◌<◌, ◌∷
 ghost use Rattle.rule_machine.specs.Base.{dropped};
 
 use crate::history::{History, HistoryPrefix};
-use crate::marks::{Posts, Publishes};
+use crate::marks::{AtBase, AtNames, Posts, Publishes};
 use crate::note::Note;
 use crate::reader::Reader;
 use crate::register_copy::RegisterCopy;
@@ -95,7 +95,7 @@ impl<L: Law> Board<L> {
         requires law { L.holds (record { places = places; present = present; base = None }) [] }
         ensures { IfOk result (λ b. (b.list ≡ []) × (b.posted ≡ []) × (b.name.extent ≡ record { places = places; present = present; base = None })) }
     {
-        let history = History::at_names(present);
+        let history = History::open::<u32, AtNames>(&present);
         let copy = RegisterCopy::blank(alloc, places, present, &history.front)?;
         Ok(Board::over(alloc, readers, copy, history))
     }
@@ -113,7 +113,7 @@ impl<L: Law> Board<L> {
         requires law { L.holds (record { places = places; present = length base.now.nodes; base = Some base.now }) [] }
         ensures { IfOk result (λ b. (b.list ≡ []) × (b.posted ≡ []) × (b.name.extent ≡ record { places = places; present = length base.now.nodes; base = Some base.now })) }
     {
-        let history = History::at_base(base);
+        let history = History::open::<Base, AtBase>(base);
         let copy = RegisterCopy::from_base(alloc, places, base, &history.front)?;
         Ok(Board::over(alloc, readers, copy, history))
     }

@@ -7,7 +7,7 @@ ghost use Rattle.snapshots.specs.declared.marks.Mark.TheVariants.{Beginning};
 ghost use Rattle.snapshots.specs.Origins.{origin_of};
 ghost use Rattle.snapshots.specs.History.{published, shown, head_of, max_marks, IsOneLog, AreOneLog, AreComparable};
 
-use crate::marks::{AtBase, AtNames, Mark};
+use crate::marks::Mark;
 use logbook::{Gain, Offer, Opening, Plain, Play, Rule, Seen, Start, Word};
 use rule_machine::Base;
 
@@ -123,20 +123,8 @@ pub(crate) struct History {
 }
 
 impl History {
-    /// The history of a board whose first nodes are this many names from 1.
-    pub(crate) fn at_names(count: u32) -> History
-        ensures { result.front.seen.log ≡ Beginning (FirstNames count) ∷ [] }
-    {
-        History::open::<u32, AtNames>(&count)
-    }
-
-    pub(crate) fn at_base(base: &Base) -> History
-        ensures { result.front.seen.log ≡ Beginning (FromBase base.now) ∷ [] }
-    {
-        History::open::<Base, AtBase>(base)
-    }
-
-    fn open<X, M: Opening<X, Mark>>(about: &X) -> History
+    /// The history of a board that has only a beginning.
+    pub(crate) fn open<X, M: Opening<X, Mark>>(about: &X) -> History
         requires { length (M.log 1 about.now) ≡ 1 }
         ensures { result.front.seen.log ≡ M.log 1 about.now }
     {

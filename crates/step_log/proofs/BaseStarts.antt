@@ -1,13 +1,12 @@
 -- A journal that begins at a base.
-use Rattle.step_log.proofs.Prelude.{◌≡◌, ◌≤◌, ℕ, List, [], length, map, None, Option, RoundCount, Some, refl, sym, ap, subst, arith, Base, Forgotten, Moment, IsJournal, RuleTable, State, max_entries}
+use Rattle.step_log.proofs.Prelude.{◌≡◌, ◌≤◌, ℕ, List, [], length, map, Some, refl, sym, ap, subst, arith, Base, Forgotten, Moment, IsJournal, RuleTable, State, max_entries}
 use Rattle.rule_machine.specs.Network.{Network}
 use Rattle.rule_machine.specs.Base.{IsBaseMoment, base_of}
 use Rattle.rule_engine.specs.EventReplies.{IsWithinBudget}
 use Rattle.machine_laws.specs.ChargeWords.{charge_bound}
 use Rattle.step_log.specs.declared.epoch.Epoch.{Epoch}
 use Rattle.step_log.specs.Epochs.{of_run}
-use Rattle.step_log.specs.BaseStarts.{BeginsIn, kept_from, recording_from}
-use Rattle.step_log.specs.Recording.{Recording}
+use Rattle.step_log.specs.BaseStarts.{BeginsIn, kept_from}
 use Rattle.step_log.specs.RetainedLogs.{RetainedLog, IsBaseOfGraph}
 use Rattle.rule_machine.specs.Run.{Entry}
 use Rattle.rule_machine.specs.declared.base.NodeRecord.{NodeRecord}
@@ -55,7 +54,3 @@ begun_in t weight size base m begun =
 pub kept_is : (s : State) (base : Base) (limit most spent : ℕ) (entries : List Entry) (nodes : List NodeRecord) → spent ≡ base.spent → entries ≡ [] → limit ≡ most → nodes ≡ base.nodes → ◌≡◌ {A = RetainedLog} (record { state = s; spent = spent; base = Some base; entries = entries; limit = limit; present = length nodes }) (kept_from s base most)
 kept_is s base limit most spent entries nodes same none min_is listed i =
     record { state = s; spent = same i; base = Some base; entries = none i; limit = min_is i; present = length (listed i) }
-
-pub recording_is : (s : State) (base : Base) (limit most spent : ℕ) (nodes : List NodeRecord) (counting : Option RoundCount) → spent ≡ base.spent → limit ≡ most → nodes ≡ base.nodes → counting ≡ None → ◌≡◌ {A = Recording} (record { state = s; spent = spent; len = base.number; limit = limit; present = length nodes; counting = counting }) (recording_from s base most)
-recording_is s base limit most spent nodes counting same min_is listed uncounted i =
-    record { state = s; spent = same i; len = base.number; limit = min_is i; present = length (listed i); counting = uncounted i }

@@ -1,5 +1,5 @@
 -- Logs that begin at a base, and why none does.
-use Rattle.std.specs.Prelude.{ℕ, ◌<◌, ◌≤◌, [], length, max, min, None, Some}
+use Rattle.std.specs.Prelude.{ℕ, ◌<◌, ◌≤◌, [], length, max, min, Some}
 use Rattle.rule_machine.specs.declared.base.Base.{Base}
 use Rattle.rule_machine.specs.Base.{IsBaseMoment, base_of}
 use Rattle.rule_machine.specs.Network.{node_count}
@@ -10,14 +10,8 @@ use Rattle.machine_laws.specs.ChargeWords.{charge_bound}
 use Rattle.rule_engine.specs.BaseFaults.{ExplainsBaseFault}
 use Rattle.step_log.specs.declared.start_fault.StartFault.{StartFault}
 use Rattle.step_log.specs.declared.start_fault.StartFault.TheVariants.{LogFull, NoStart}
-use Rattle.step_log.specs.Recording.{Recording, max_entries}
+use Rattle.step_log.specs.Recording.{max_entries}
 use Rattle.step_log.specs.RetainedLogs.{RetainedLog}
-
--- the recording at the moment of the base: numbers go on after the base's, the nodes at the start are those of
--- the base, and rounds are not counted
-abbrev pub recording_from : State → Base → ℕ → Recording
-recording_from s base limit =
-    record { state = s; spent = base.spent; len = base.number; limit = limit; present = length base.nodes; counting = None }
 
 -- what is kept at the moment of the base: the base, and no entry
 abbrev pub kept_from : State → Base → ℕ → RetainedLog

@@ -35,10 +35,6 @@ abbrev pub opening_recording_with : ℕ → ℕ → ℕ → Recording
 opening_recording_with size present limit =
     record { state = opening_with size present; spent = 0; len = 0; limit = limit; present = present; counting = None }
 
--- the recording before any event, with all names present
-abbrev pub opening_recording : ℕ → ℕ → Recording
-opening_recording nodes limit = opening_recording_with nodes nodes limit
-
 -- the recording that goes on at a moment, with this count of rounds, after this many entries, which the limit
 -- includes
 abbrev pub resumed_recording : Moment → Option RoundCount → ℕ → ℕ → Recording

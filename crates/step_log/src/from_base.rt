@@ -1,56 +1,25 @@
-//! Recorders and journals that begin at a base.
+//! Journals that begin at a base, or go on with a network.
 
 ghost use Rattle.std.specs.Prelude.{◌≡◌, ◌<◌, ◌≤◌, ◌↔◌, ℕ, false, min, IfErr, IfOk, IsErrOf, None, OnOk};
 ghost use Rattle.rule_engine.specs.PreparedEvents.{net_moment};
 ghost use Rattle.rule_machine.specs.State.{flag};
-ghost use Rattle.step_log.specs.BaseStarts.{BeginsIn, ExplainsStartFault, kept_from, recording_from, resumed_log};
+ghost use Rattle.step_log.specs.BaseStarts.{BeginsIn, ExplainsStartFault, kept_from, resumed_log};
 ghost use Rattle.step_log.specs.JournalViews.{kept_of};
 ghost use Rattle.step_log.specs.Log.{max_entries};
 ghost use Rattle.step_log.specs.declared.start_fault.StartFault.TheVariants.{LogFull};
 
 use crate::epoch::Epochs;
-use crate::{Journal, MAX_ENTRIES, Recorder, StartFault};
+use crate::{Journal, MAX_ENTRIES, StartFault};
 use rule_engine::{Net, Rules, Want};
 use rule_machine::{Base, EpochStart, MAX_NAME};
 use std::alloc::Global;
 
-impl<R: Rules> Recorder<R> {
-    /// The recorder of the network at the moment of a base, with names up to `size`.
-    /// `len` is the base's number, and entries go on after it; `limit` counts all numbers, and one above
-    /// 16,777,216 counts as 16,777,216.
-    /// `LogFull` exactly if the base's number is above the limit, before any other fault: the base is none
-    /// of this log, although a network may begin there. Else `NoStart` with the fault of `Net::from_base`.
-    /// Costs what `Net::from_base` costs.
-    pub fn from_base(
-        alloc: Global,
-        size: u32,
-        limit: u32,
-        base: &Base,
-    ) -> Result<Recorder<R>, StartFault>
-        ensures recording { IfOk result (λ recorder. recorder ≡ recording_from recorder.state base.now (min limit max_entries)) }
-        ensures begins { IfOk result (λ recorder. BeginsIn R.table R.NODE_WEIGHT size base.now recorder.state) }
-        ensures room { OnOk result (base.now.number ≤ min limit max_entries) }
-        ensures full { IsErrOf result LogFull ↔ (min limit max_entries < base.now.number) }
-        ensures fault { IfErr result (λ fault. ExplainsStartFault R.table R.NODE_WEIGHT size (min limit max_entries) base.now fault) }
-    {
-        let limit = limit.min(MAX_ENTRIES);
-        if base.number > limit {
-            return Err(StartFault::LogFull);
-        }
-        let net = Net::from_base(alloc, size, base)?;
-        Ok(Recorder {
-            net,
-            len: base.number,
-            limit,
-            present: base.nodes.as_slice().len() as u32,
-        })
-    }
-}
-
 impl<R: Rules> Journal<R> {
     /// The journal of the network at the moment of a base, with names up to `size`.
     /// The journal keeps the base, as after a checkpoint: the log begins there, and entries go on after the
-    /// base's number. `limit` and the faults are those of `Recorder::from_base`.
+    /// base's number. `limit` counts all numbers, and one above 16,777,216 counts as 16,777,216.
+    /// `LogFull` exactly if the base's number is above the limit, before any other fault: the base is none
+    /// of this log, although a network may begin there. Else `NoStart` with the fault of `Net::from_base`.
     /// Costs what `Net::from_base` costs.
     pub fn from_base(
         alloc: Global,

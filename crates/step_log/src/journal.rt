@@ -1,6 +1,6 @@
 //! A network with its log.
 
-ghost use Rattle.std.specs.Prelude.{◌≡◌, ◌<◌, ◌≤◌, ◌+◌, ◌-◌, ◌*◌, ◌⊎◌, ◌↔◌, All, length, min, IfOk, IfErr, OnOk, OnErr, IsErrOf, IsTrue, None, Some, slice_get, vec_capacity};
+ghost use Rattle.std.specs.Prelude.{◌≡◌, ◌<◌, ◌≤◌, ◌+◌, ◌-◌, ◌⊎◌, ◌↔◌, All, length, min, IfOk, IfErr, OnOk, OnErr, IsErrOf, IsTrue, None, Some, slice_get, vec_capacity};
 ghost use Rattle.graph_store.specs.Fault.{nodes_fault, ExplainsGraphFault};
 ghost use Rattle.rule_machine.specs.declared.event.Event.TheVariants.{Step};
 ghost use Rattle.rule_engine.specs.ChoiceMoves.{verdicts_of};
@@ -9,8 +9,6 @@ ghost use Rattle.step_log.specs.declared.fault.NoEntry.TheVariants.{Forgotten, B
 ghost use Rattle.round_laws.specs.RoundCounts.{next_counting};
 ghost use Rattle.step_log.specs.Epochs.{AreEpochs, IsEpochWithinBound};
 ghost use Rattle.rule_machine.specs.Base.{dropped};
-ghost use Rattle.rule_machine.specs.Network.{node_count, edge_count};
-ghost use Rattle.rule_machine.specs.Stable.{IsStable};
 ghost use Rattle.step_log.specs.Log.{max_entries, IsLog, empty_log, empty_log_with};
 ghost use Rattle.step_log.specs.RetainedLogs.{IsRetainedRun, last_number, whole, kept_with, next_receipt};
 ghost use Rattle.step_log.specs.JournalViews.{IsNextReceipt, counting_journal, kept_of, undropped_log};
@@ -176,15 +174,6 @@ impl<R: Rules> Journal<R> {
         self.net.count_rounds()?;
         self.counted_from = Some(last);
         Ok(())
-    }
-
-    /// The charge, a bound on the moves before the next accepted disturbance. See `Net::charge`.
-    pub fn charge(&mut self) -> u32
-        ensures charge { result ≡ R.table.charge self.old.state }
-        ensures settled { result ≡ 0 → IsStable R.table.flags self.old.state }
-        ensures kept { self.new ≡ self.old }
-    {
-        self.net.charge()
     }
 
     /// The epochs of the log, in order. The last epoch ends now.

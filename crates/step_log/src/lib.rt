@@ -1,8 +1,8 @@
 //! Networks that number their entries: the recorder keeps no entry, and the journal keeps a log.
 //!
 //! A `Recorder` hands out each entry's number, reply and text. A `Journal` keeps the log from the start or
-//! from the last checkpoint, whose base replaces the dropped entries; numbers continue. Both can also begin
-//! at a base (`from_base`).
+//! from the last checkpoint, whose base replaces the dropped entries; numbers continue. A journal can also
+//! begin at a base (`from_base`), and both go on with a given network (`of_net`).
 //!
 //! The type of a journal states three facts (`Upholds`): the kept log is a run of the rule machine to the
 //! network's state; each reply is the machine's; each epoch's moves are within the bound. After a fault

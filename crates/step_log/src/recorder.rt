@@ -1,10 +1,8 @@
 //! A network whose entries are numbered.
 
-ghost use Rattle.std.specs.Prelude.{◌≡◌, ◌<◌, ◌≤◌, ◌+◌, ◌++◌, ◌*◌, ◌↔◌, min, IfOk, IfErr, IfSome, OnOk, OnErr, IsErrOf, IsTrue};
+ghost use Rattle.std.specs.Prelude.{◌≡◌, ◌<◌, ◌≤◌, ◌+◌, ◌++◌, ◌↔◌, min, IfOk, IfErr, IfSome, OnOk, OnErr, IsErrOf, IsTrue};
 ghost use Rattle.graph_store.specs.Fault.{nodes_fault, ExplainsGraphFault};
 ghost use Rattle.rule_machine.specs.declared.event.Event.TheVariants.{Step};
-ghost use Rattle.rule_machine.specs.Network.{node_count, edge_count};
-ghost use Rattle.rule_machine.specs.Stable.{IsStable};
 ghost use Rattle.rule_machine.specs.Answer.{Answers};
 ghost use Rattle.rule_machine.specs.Least.{reply_of};
 ghost use Rattle.rule_engine.specs.ChoiceMoves.{verdicts_of};
@@ -12,7 +10,7 @@ ghost use Rattle.rule_engine.specs.PreparedEvents.{net_moment};
 ghost use Rattle.line_text.specs.EntryText.{entry_line};
 ghost use Rattle.line_text.specs.EventText.{event_text};
 ghost use Rattle.step_log.specs.declared.fault.RecordFault.TheVariants.{LogFull};
-ghost use Rattle.step_log.specs.Recording.{max_entries, opening_recording, opening_recording_with, resumed_recording, counting_from, entered, entered_line};
+ghost use Rattle.step_log.specs.Recording.{max_entries, opening_recording_with, resumed_recording, counting_from, entered, entered_line};
 
 use crate::{Answer, MAX_ENTRIES, RecordFault};
 use line_text::{put_entry, put_entry_of_line};
@@ -44,26 +42,8 @@ impl<R: Rules> Model for Recorder<R> {
 }
 
 impl<R: Rules> Recorder<R> {
-    /// The recorder of a new network of the nodes 1 to `nodes`, with a limit of 16,777,216 entries.
-    /// `TooManyNodes` above 65,535 nodes; `Memory` if memory runs out.
-    pub fn new(alloc: Global, nodes: u32) -> Result<Recorder<R>, GraphFault>
-        ensures ok { IfOk result (λ recorder. recorder ≡ opening_recording nodes max_entries) }
-        ensures small { OnOk result (nodes ≤ 65535) }
-        ensures fault { IfErr result (λ fault. ExplainsGraphFault (nodes_fault nodes) fault) }
-    {
-        Recorder::with_limit(alloc, nodes, MAX_ENTRIES)
-    }
-
-    /// Like `new`, with a limit of `limit` entries; a limit above 16,777,216 counts as 16,777,216.
-    pub fn with_limit(alloc: Global, nodes: u32, limit: u32) -> Result<Recorder<R>, GraphFault>
-        ensures ok { IfOk result (λ recorder. recorder ≡ opening_recording nodes (min limit max_entries)) }
-        ensures small { OnOk result (nodes ≤ 65535) }
-        ensures fault { IfErr result (λ fault. ExplainsGraphFault (nodes_fault nodes) fault) }
-    {
-        Recorder::with_present(alloc, nodes, nodes, limit)
-    }
-
-    /// Like `with_limit`, but only the names 1 to `present` are nodes at the start.
+    /// The recorder of a new network of the nodes 1 to `present`, with names up to `nodes`.
+    /// A limit above 16,777,216 entries counts as 16,777,216.
     /// `TooManyNodes` above 65,535 names; `Memory` if memory runs out.
     pub fn with_present(
         alloc: Global,
@@ -136,15 +116,6 @@ impl<R: Rules> Recorder<R> {
         ensures err { OnErr result (self.new ≡ self.old) }
     {
         self.net.count_rounds()
-    }
-
-    /// The charge, a bound on the moves before the next accepted disturbance. See `Net::charge`.
-    pub fn charge(&mut self) -> u32
-        ensures charge { result ≡ R.table.charge self.old.state }
-        ensures settled { result ≡ 0 → IsStable R.table.flags self.old.state }
-        ensures kept { self.new ≡ self.old }
-    {
-        self.net.charge()
     }
 
     /// Carries out an event, writes the reply into `reply`, and appends the entry's text with an LF.

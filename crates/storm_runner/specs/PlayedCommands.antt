@@ -1,7 +1,6 @@
 -- What a command adds to a clerk's receipts, and which clerk plays which script.
-use Rattle.std.specs.Prelude.{◌≡◌, ℕ, ◌<◌, ◌≤◌, length, List, [], ◌∷◌, ◌++◌, Option, None, Some, Result, Ok, Err}
+use Rattle.std.specs.Prelude.{◌≡◌, ℕ, ◌<◌, ◌≤◌, length, List, ◌++◌, Option, Some, Result, Ok, Err}
 use Rattle.std.specs.List.{All}
-use Rattle.std.specs.Option.{option_or}
 use mathlib.Core.List.{IsPrefix}
 use Rattle.rand_core.specs.Stream.{Stream}
 use Rattle.rule_machine.specs.Run.{Entry}
@@ -9,6 +8,7 @@ use Rattle.seeded_turns.specs.DrawnEvents.{Draws}
 use Rattle.step_log.specs.declared.receipt.Receipt.{Receipt}
 use Rattle.locked_net.specs.ChosenEvents.{HoldsAll}
 use Rattle.locked_net.specs.Receipts.{ClerkView, front_of, seen_by, greater_base, noted}
+use Rattle.locked_net.specs.RoamResults.{FirstFault}
 use Rattle.locked_net.specs.Settings.{Setting}
 use Rattle.locked_net.specs.declared.call_fault.CallFault.{CallFault}
 use Rattle.script_text.specs.declared.command.Command.{Command}
@@ -53,10 +53,7 @@ IsBased setting Checkpoint old new =
 
 -- each script was played by the clerk at its index, on the log that this clerk's note shows
 abbrev pub AllStop : Setting → List (List ScriptLine) → List ClerkView → Option CallFault → Type 0
-AllStop setting [] [] fault = fault ≡ None
-AllStop setting (script ∷ scripts) (clerk ∷ clerks) fault =
-    (own : Option CallFault) × (others : Option CallFault) × (fault ≡ option_or own others) × MayEndScript (scene_of setting clerk) script clerk own × AllStop setting scripts clerks others
-AllStop setting scripts clerks fault = ⊥
+AllStop setting = FirstFault (λ script clerk. MayEndScript (scene_of setting clerk) script clerk)
 
 -- The receipts of these clerks are of one log, which can be any log that begins with what their notes show.
 -- Each script was played by the clerk at its index.

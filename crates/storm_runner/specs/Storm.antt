@@ -25,7 +25,7 @@ use Rattle.locked_net.specs.RetainedParts.{IsPartOfLog}
 use Rattle.locked_net.specs.Receipts.{ClerkView, front_from, front_of, base_from, base_number, fresh}
 use Rattle.locked_net.specs.Settings.{Setting}
 use Rattle.locked_net.specs.Settlements.{Settlement, Unsettles}
-use Rattle.locked_net.specs.RoamResults.{IsLoneStep, MayEnd}
+use Rattle.locked_net.specs.RoamResults.{IsLoneStep, MayEnd, FirstFault}
 use Rattle.locked_net.specs.declared.call_fault.CallFault.{CallFault}
 use Rattle.locked_net.specs.declared.settle_fault.SettleFault.{SettleFault}
 use Rattle.script_text.specs.declared.script.ScriptLine.{ScriptLine}
@@ -129,10 +129,7 @@ MayEndScript scene lines clerk (Some fault) = StandsInPart scene lines clerk
 -- Each script was played by the clerk at its index. The fault is the first that a script met, in the order of
 -- the scripts; there is no fault if each script was played to its end.
 abbrev pub AllPlayed : Scene → List (List ScriptLine) → List ClerkView → Option CallFault → Type 0
-AllPlayed scene [] [] fault = fault ≡ None
-AllPlayed scene (script ∷ scripts) (clerk ∷ clerks) fault =
-    (own : Option CallFault) × (others : Option CallFault) × (fault ≡ option_or own others) × MayEndScript scene script clerk own × AllPlayed scene scripts clerks others
-AllPlayed scene scripts clerks fault = ⊥
+AllPlayed scene = FirstFault (MayEndScript scene)
 
 -- the receipts of a worker that roams for this many turns: steps of one node, at most one for each turn
 abbrev pub IsRoaming : ℕ → List Receipt → Type 0
@@ -142,9 +139,7 @@ IsRoaming turns own = (length own ≤ turns) × All IsLoneStep own
 -- the node moved whose turn it was in the state there, or no node was enabled there. The fault is the first that
 -- a worker met, in the order of the workers; there is no fault if each worker took all its turns.
 abbrev pub AllRoamed : Setting → List Entry → ℕ → List ClerkView → Option CallFault → Type 0
-AllRoamed setting log turns [] fault = fault ≡ None
-AllRoamed setting log turns (clerk ∷ clerks) fault =
-    (own : Option CallFault) × (others : Option CallFault) × (fault ≡ option_or own others) × MayEnd setting log turns fresh clerk own × AllRoamed setting log turns clerks others
+AllRoamed setting log turns clerks = FirstFault (λ _ clerk. MayEnd setting log turns fresh clerk) clerks clerks
 
 -- The clerks of a storm are one for each script, which played the script, and then one for each worker, which
 -- roamed. The fault is the first that a script met, in the order of the scripts, or else the first that a worker

@@ -1,10 +1,9 @@
 -- How workers roam during scripts.
-use Rattle.std.specs.Prelude.{◌≡◌, ◌≢◌, ◌↔◌, ℕ, List, [], ◌∷◌, length, Option, None, Result, IfErr, IsErrOf}
+use Rattle.std.specs.Prelude.{◌≡◌, ◌≢◌, ◌↔◌, ℕ, List, [], length, Option, None, Result, IfErr, IsErrOf}
 use Rattle.std.specs.List.{All}
-use Rattle.std.specs.Option.{option_or}
 use Rattle.locked_net.specs.Receipts.{ClerkView, fresh, noted}
 use Rattle.locked_net.specs.Settings.{Setting}
-use Rattle.locked_net.specs.RoamResults.{MayEnd, roam_call_fault}
+use Rattle.locked_net.specs.RoamResults.{FirstFault, MayEnd, roam_call_fault}
 use Rattle.locked_net.specs.declared.call_fault.CallFault.{CallFault}
 use Rattle.locked_net.specs.declared.roam_fault.RoamFault.{RoamFault}
 use Rattle.locked_net.specs.declared.roam_fault.RoamFault.TheVariants as roam
@@ -13,9 +12,7 @@ use Rattle.storm_runner.specs.Storm.{IsRoaming}
 -- Each clerk took all its turns, or turns up to a fault, each on a beginning of the log that its note shows. The
 -- fault is the first that a clerk met, in the clerks' order.
 abbrev pub AllRoamedOnNotes : Setting → ℕ → List ClerkView → Option CallFault → Type 0
-AllRoamedOnNotes setting turns [] fault = fault ≡ None
-AllRoamedOnNotes setting turns (clerk ∷ clerks) fault =
-    (own : Option CallFault) × (others : Option CallFault) × (fault ≡ option_or own others) × MayEnd setting (noted clerk.note) turns fresh clerk own × AllRoamedOnNotes setting turns clerks others
+AllRoamedOnNotes setting turns clerks = FirstFault (λ _ clerk. MayEnd setting (noted clerk.note) turns fresh clerk) clerks clerks
 
 -- Fresh clerks have roamed for this many turns. No clerk made a base, `ZeroWorkers` comes exactly if there are no
 -- clerks, and `Thread` never comes.

@@ -25,24 +25,24 @@ use steal_pool::{Gate, NoGate};
 /// Scripts and workers go on at once if a thread can be started.
 pub(crate) fn play_beside<R: Rules + Send + Sync, G: Gate + Sync, T: Threads + Wait + Sync>(
     rt: &T,
-    stage: &StormContext<R, G>,
+    context: &StormContext<R, G>,
     scripts: &[Script],
     clerks: &mut [Clerk],
 ) -> Option<CallFault>
-    requires size { length clerks.old ≡ length scripts.now + stage.now.crew.roamers }
+    requires size { length clerks.old ≡ length scripts.now + context.now.config.roamers }
     requires few { length scripts.now ≤ 64 }
     requires fresh { All (λ clerk. clerk ≡ fresh) clerks.old }
-    ensures told { ToldOn (setting_of R.table stage.now.net.now) scripts.now stage.now.crew.roamers stage.now.crew.turns clerks.new result }
-    ensures notes { All (IsOfBook (book_of stage.now.net.now)) clerks.new }
+    ensures told { ToldOn (setting_of R.table context.now.net.now) scripts.now context.now.config.roamers context.now.config.turns clerks.new result }
+    ensures notes { All (IsOfBook (book_of context.now.net.now)) clerks.new }
 {
     let (own, roaming) = clerks.split_at_mut(scripts.len());
-    let (met, roamed) = play_and_roam(rt, stage, scripts, own, roaming);
+    let (met, roamed) = play_and_roam(rt, context, scripts, own, roaming);
     first_fault(met, roamed)
 }
 
 fn play_and_roam<R: Rules + Send + Sync, G: Gate + Sync, T: Threads + Wait + Sync>(
     rt: &T,
-    stage: &StormContext<R, G>,
+    context: &StormContext<R, G>,
     scripts: &[Script],
     own: &mut [Clerk],
     roaming: &mut [Clerk],
@@ -52,47 +52,47 @@ fn play_and_roam<R: Rules + Send + Sync, G: Gate + Sync, T: Threads + Wait + Syn
     requires few_workers { length roaming.old ≤ 64 }
     requires own_fresh { All (λ clerk. clerk ≡ fresh) own.old }
     requires roaming_fresh { All (λ clerk. clerk ≡ fresh) roaming.old }
-    ensures played { PlayedOn (setting_of R.table stage.now.net.now) scripts.now own.new result.0 }
-    ensures roamed { RoamResultOfNew (setting_of R.table stage.now.net.now) stage.now.crew.turns roaming.old roaming.new result.1 }
-    ensures own_notes { All (IsOfBook (book_of stage.now.net.now)) own.new }
-    ensures roaming_notes { All (IsOfBook (book_of stage.now.net.now)) roaming.new }
+    ensures played { PlayedOn (setting_of R.table context.now.net.now) scripts.now own.new result.0 }
+    ensures roamed { RoamResultOfNew (setting_of R.table context.now.net.now) context.now.config.turns roaming.old roaming.new result.1 }
+    ensures own_notes { All (IsOfBook (book_of context.now.net.now)) own.new }
+    ensures roaming_notes { All (IsOfBook (book_of context.now.net.now)) roaming.new }
 {
     if roaming.is_empty() {
         return (
-            play_all(rt, stage, 0, scripts, own),
+            play_all(rt, context, 0, scripts, own),
             Err(RoamFault::ZeroWorkers),
         );
     }
-    let turns = stage.crew.turns;
+    let turns = context.config.turns;
     let (roamed, met) = join_mut(
         rt,
         &mut || -> Result<(), RoamFault>
             requires { IsSync T.row × IsSend R.row × (length roaming.now ≤ 64) × All (λ clerk. clerk ≡ fresh) roaming.now }
-            ensures roamed { RoamResultOfNew (setting_of R.table stage.entry.now.net.now) turns roaming.entry.now roaming.exit.now result }
-            ensures notes { All (IsOfBook (book_of stage.entry.now.net.now)) roaming.exit.now }
-        { roam_new(rt, stage, turns, roaming) },
+            ensures roamed { RoamResultOfNew (setting_of R.table context.entry.now.net.now) turns roaming.entry.now roaming.exit.now result }
+            ensures notes { All (IsOfBook (book_of context.entry.now.net.now)) roaming.exit.now }
+        { roam_new(rt, context, turns, roaming) },
         &mut || -> Option<CallFault>
             requires { IsSync T.row × IsSync G.row × IsSend R.row × IsSync R.row
                 × (length scripts.now ≡ length own.now) × (length scripts.now ≤ 64) × All (λ clerk. clerk ≡ fresh) own.now }
-            ensures played { PlayedOn (setting_of R.table stage.entry.now.net.now) scripts.entry.now own.exit.now result }
-            ensures notes { All (IsOfBook (book_of stage.entry.now.net.now)) own.exit.now }
-        { play_all(rt, stage, 0, scripts, own) },
+            ensures played { PlayedOn (setting_of R.table context.entry.now.net.now) scripts.entry.now own.exit.now result }
+            ensures notes { All (IsOfBook (book_of context.entry.now.net.now)) own.exit.now }
+        { play_all(rt, context, 0, scripts, own) },
     );
     (met, roamed)
 }
 
 fn roam_new<R: Rules + Send, G: Gate, T: Threads + Wait + Sync>(
     rt: &T,
-    stage: &StormContext<R, G>,
+    context: &StormContext<R, G>,
     turns: u32,
     clerks: &mut [Clerk],
 ) -> Result<(), RoamFault>
     requires few { length clerks.old ≤ 64 }
     requires fresh { All (λ clerk. clerk ≡ fresh) clerks.old }
-    ensures roamed { RoamResultOfNew (setting_of R.table stage.now.net.now) turns clerks.old clerks.new result }
-    ensures notes { All (IsOfBook (book_of stage.now.net.now)) clerks.new }
+    ensures roamed { RoamResultOfNew (setting_of R.table context.now.net.now) turns clerks.old clerks.new result }
+    ensures notes { All (IsOfBook (book_of context.now.net.now)) clerks.new }
 {
-    roam(rt, stage.net, clerks, turns, &NoGate)
+    roam(rt, context.net, clerks, turns, &NoGate)
 }
 
 fn first_fault(met: Option<CallFault>, roamed: Result<(), RoamFault>) -> Option<CallFault>

@@ -20,18 +20,18 @@ use steal_pool::{Gate, NoGate, paying_workers};
 
 fn step<R: Rules + Sync, G: Gate, T: Threads + Wait + Sync>(
     rt: &T,
-    stage: &StormContext<R, G>,
+    context: &StormContext<R, G>,
     clerk: &mut Clerk,
     choice: Choice,
 ) -> Result<Reply, CallFault>
     ensures receipt { IfOk result (λ reply. Keeps clerk.old.receipts clerk.new.receipts (Step choice) reply) }
-    ensures note { OnOk result (HasNoteOf (book_of stage.now.net.now) clerk.new) }
+    ensures note { OnOk result (HasNoteOf (book_of context.now.net.now) clerk.new) }
     ensures base { clerk.new.base ≡ clerk.old.base }
     ensures above { OnOk result (seen_by clerk.old < front_of clerk.new.receipts) }
     ensures kept { OnErr result (clerk.new ≡ clerk.old) }
 {
-    let workers = paying_workers(stage.crew.workers, choice.items().len());
-    match clerk.step_with(rt, stage.net, choice, workers, &NoGate) {
+    let workers = paying_workers(context.config.workers, choice.items().len());
+    match clerk.step_with(rt, context.net, choice, workers, &NoGate) {
         Ok(reply) => Ok(reply),
         Err(StepFault::Call(fault)) => Err(fault),
         Err(StepFault::Pool(_)) => unreachable!(),
@@ -40,36 +40,36 @@ fn step<R: Rules + Sync, G: Gate, T: Threads + Wait + Sync>(
 
 fn call<R: Rules + Sync, G: Gate, T: Threads + Wait + Sync>(
     rt: &T,
-    stage: &StormContext<R, G>,
+    context: &StormContext<R, G>,
     clerk: &mut Clerk,
     event: &Event,
 ) -> Result<Reply, CallFault>
     ensures receipt { IfOk result (λ reply. Keeps clerk.old.receipts clerk.new.receipts event.now reply) }
-    ensures note { OnOk result (HasNoteOf (book_of stage.now.net.now) clerk.new) }
+    ensures note { OnOk result (HasNoteOf (book_of context.now.net.now) clerk.new) }
     ensures base { clerk.new.base ≡ clerk.old.base }
     ensures above { OnOk result (seen_by clerk.old < front_of clerk.new.receipts) }
     ensures kept { OnErr result (clerk.new ≡ clerk.old) }
 {
     match event.clone()? {
-        Event::Step(choice) => step(rt, stage, clerk, choice),
-        event => clerk.call(rt, stage.net, event),
+        Event::Step(choice) => step(rt, context, clerk, choice),
+        event => clerk.call(rt, context.net, event),
     }
 }
 
 fn tell<R: Rules + Sync, G: Gate, T: Threads + Wait + Sync>(
     rt: &T,
-    stage: &StormContext<R, G>,
+    context: &StormContext<R, G>,
     clerk: &mut Clerk,
     event: &Event,
 ) -> Result<(), CallFault>
-    requires { IsOfBook (book_of stage.now.net.now) clerk.old }
-    ensures plays { Plays (setting_of R.table stage.now.net.now) (Tell event.now) clerk.old clerk.new result }
-    ensures note { IsOfBook (book_of stage.now.net.now) clerk.new }
+    requires { IsOfBook (book_of context.now.net.now) clerk.old }
+    ensures plays { Plays (setting_of R.table context.now.net.now) (Tell event.now) clerk.old clerk.new result }
+    ensures note { IsOfBook (book_of context.now.net.now) clerk.new }
     ensures base { clerk.new.base ≡ clerk.old.base }
     ensures grows { IsPrefix (noted clerk.old.note) (noted clerk.new.note) }
 {
     let before = clerk.noted();
-    call(rt, stage, clerk, event)?;
+    call(rt, context, clerk, event)?;
     recall(clerk, before);
     Ok(())
 }
@@ -94,21 +94,21 @@ fn checkpoint<R: Rules, W: Wait>(
 /// Calls the network for a command: once, or for each turn until a turn has nothing to do.
 pub(crate) fn play<R: Rules + Sync, G: Gate, T: Threads + Wait + Sync>(
     rt: &T,
-    stage: &StormContext<R, G>,
+    context: &StormContext<R, G>,
     clerk: &mut Clerk,
     command: &Command,
 ) -> Result<(), CallFault>
-    requires { IsOfBook (book_of stage.now.net.now) clerk.old }
-    ensures plays { Plays (setting_of R.table stage.now.net.now) command.now clerk.old clerk.new result }
-    ensures note { IsOfBook (book_of stage.now.net.now) clerk.new }
-    ensures base { OnOk result (IsBased (setting_of R.table stage.now.net.now) command.now clerk.old clerk.new) }
+    requires { IsOfBook (book_of context.now.net.now) clerk.old }
+    ensures plays { Plays (setting_of R.table context.now.net.now) command.now clerk.old clerk.new result }
+    ensures note { IsOfBook (book_of context.now.net.now) clerk.new }
+    ensures base { OnOk result (IsBased (setting_of R.table context.now.net.now) command.now clerk.old clerk.new) }
     ensures kept { OnErr result (clerk.new.base ≡ clerk.old.base) }
     ensures grows { IsPrefix (noted clerk.old.note) (noted clerk.new.note) }
 {
     match command {
-        Command::Tell(event) => tell(rt, stage, clerk, event),
-        Command::Drive(turns) => drive(rt, stage.alloc, stage.net, clerk, *turns),
-        Command::Scramble(turns) => scramble(rt, stage.net, clerk, *turns),
-        Command::Checkpoint => checkpoint(rt, stage.net, clerk),
+        Command::Tell(event) => tell(rt, context, clerk, event),
+        Command::Drive(turns) => drive(rt, context.alloc, context.net, clerk, *turns),
+        Command::Scramble(turns) => scramble(rt, context.net, clerk, *turns),
+        Command::Checkpoint => checkpoint(rt, context.net, clerk),
     }
 }

@@ -35,9 +35,9 @@ fn clerks_of<R: Rules>(alloc: Global, net: &LockedNet<R>, count: usize) -> Resul
 
 /// Plays scripts on a network, each by its own clerk, while workers roam in it, and settles all clerks.
 ///
-/// The scripts are played at once as far as threads can be started. The crew says how many workers roam and
-/// for how many turns; each worker has its own clerk. A `step` is evaluated by as many of the crew's step
-/// workers as its items are worth.
+/// The scripts are played at once as far as threads can be started. `config` says how many workers roam and
+/// for how many turns; each worker has its own clerk. A `step` is evaluated by as many workers as its items
+/// are worth, and at most by `config.workers`.
 ///
 /// Returns the log that the journal keeps, and the first fault: `Behind`, `LogFull`, or `Memory` in a call.
 /// The scripts' faults come before the workers', each in their order. A script or worker that meets a fault
@@ -58,28 +58,28 @@ pub fn play_scripts<R: Rules + Send + Sync, G: Gate + Sync, T: Threads + Wait + 
     alloc: Global,
     net: LockedNet<R>,
     scripts: &[Script],
-    crew: WorkerConfig,
+    config: WorkerConfig,
     gate: &G,
 ) -> Result<(Journal<R>, Option<CallFault>), SettleFault>
     requires { length scripts.now ≤ 64 }
-    ensures storm { IfOk result (λ left. IsStormResult (setting_of R.table net) (kept_of left.0) scripts.now crew.roamers crew.turns left.1) }
+    ensures storm { IfOk result (λ left. IsStormResult (setting_of R.table net) (kept_of left.0) scripts.now config.roamers config.turns left.1) }
     ensures run { IfOk result (λ left. IsRetainedRun R.table R.NODE_WEIGHT (kept_of left.0)) }
     ensures upheld { IfOk result (λ left. Upholds R.table R.NODE_WEIGHT (kept_of left.0)) }
-    ensures fault { IfErr result (λ why. (why ≢ Memory) → IsUnsettledStorm (setting_of R.table net) scripts.now crew.roamers crew.turns why) }
+    ensures fault { IfErr result (λ why. (why ≢ Memory) → IsUnsettledStorm (setting_of R.table net) scripts.now config.roamers config.turns why) }
     ensures size { IfOk result (λ left. (left.0.state.network.size ≡ name_count_of net) × (left.0.present ≡ first_nodes_of net) × (left.0.limit ≡ log_limit_of net)) }
 {
-    let count = scripts.len() + crew.roamers as usize;
+    let count = scripts.len() + config.roamers as usize;
     let Ok(mut clerks) = clerks_of(alloc, &net, count) else {
         net.into_journal(rt);
         return Err(SettleFault::Memory);
     };
-    let stage = StormContext {
+    let context = StormContext {
         alloc,
         net: &net,
         gate,
-        crew,
+        config,
     };
-    let fault = play_beside(rt, &stage, scripts, &mut clerks);
+    let fault = play_beside(rt, &context, scripts, &mut clerks);
     match settle_own(rt, net, clerks) {
         Ok(journal) => Ok((journal, fault)),
         Err(unsettled) => Err(unsettled.why),

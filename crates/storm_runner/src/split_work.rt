@@ -30,7 +30,7 @@ struct SplitWork<'a> {
 #[tactic(auto, using(crate::proofs::SplitScripts::on_one_log))]
 pub(crate) fn play_all<R: Rules + Send + Sync, G: Gate + Sync, T: Threads + Wait + Sync>(
     rt: &T,
-    stage: &StormContext<R, G>,
+    context: &StormContext<R, G>,
     first: u32,
     scripts: &[Script],
     clerks: &mut [Clerk],
@@ -38,24 +38,24 @@ pub(crate) fn play_all<R: Rules + Send + Sync, G: Gate + Sync, T: Threads + Wait
     requires size { length scripts.now ≡ length clerks.old }
     requires numbers { first + length scripts.now < 2 ^ 32 }
     requires fresh { All (λ clerk. clerk ≡ fresh) clerks.old }
-    ensures played { PlayedOn (setting_of R.table stage.now.net.now) scripts.now clerks.new result }
-    ensures notes { All (IsOfBook (book_of stage.now.net.now)) clerks.new }
+    ensures played { PlayedOn (setting_of R.table context.now.net.now) scripts.now clerks.new result }
+    ensures notes { All (IsOfBook (book_of context.now.net.now)) clerks.new }
 {
     if scripts.len() < 2 {
-        return play_first(rt, stage, first, scripts, clerks);
+        return play_first(rt, context, first, scripts, clerks);
     }
     let middle = scripts.len() / 2;
     let (left, right) = scripts.split_at(middle);
     let (ours, theirs) = clerks.split_at_mut(middle);
     let halves = SplitWork { first, left, right };
-    let (fault, other) = play_halves(rt, stage, &halves, ours, theirs);
+    let (fault, other) = play_halves(rt, context, &halves, ours, theirs);
     fault.or(other)
 }
 
 #[cycle(forks)]
 fn play_halves<R: Rules + Send + Sync, G: Gate + Sync, T: Threads + Wait + Sync>(
     rt: &T,
-    stage: &StormContext<R, G>,
+    context: &StormContext<R, G>,
     halves: &SplitWork,
     ours: &mut [Clerk],
     theirs: &mut [Clerk],
@@ -65,10 +65,10 @@ fn play_halves<R: Rules + Send + Sync, G: Gate + Sync, T: Threads + Wait + Sync>
     requires numbers { halves.now.first + length halves.now.left.now + length halves.now.right.now < 2 ^ 32 }
     requires left_fresh { All (λ clerk. clerk ≡ fresh) ours.old }
     requires right_fresh { All (λ clerk. clerk ≡ fresh) theirs.old }
-    ensures left { PlayedOn (setting_of R.table stage.now.net.now) halves.now.left.now ours.new result.0 }
-    ensures right { PlayedOn (setting_of R.table stage.now.net.now) halves.now.right.now theirs.new result.1 }
-    ensures left_notes { All (IsOfBook (book_of stage.now.net.now)) ours.new }
-    ensures right_notes { All (IsOfBook (book_of stage.now.net.now)) theirs.new }
+    ensures left { PlayedOn (setting_of R.table context.now.net.now) halves.now.left.now ours.new result.0 }
+    ensures right { PlayedOn (setting_of R.table context.now.net.now) halves.now.right.now theirs.new result.1 }
+    ensures left_notes { All (IsOfBook (book_of context.now.net.now)) ours.new }
+    ensures right_notes { All (IsOfBook (book_of context.now.net.now)) theirs.new }
 {
     let (first, left, right) = (halves.first, halves.left, halves.right);
     let second = first + left.len() as u32;
@@ -77,14 +77,14 @@ fn play_halves<R: Rules + Send + Sync, G: Gate + Sync, T: Threads + Wait + Sync>
         &mut || -> Option<CallFault>
             requires { IsSync T.row × IsSync G.row × IsSend R.row × IsSync R.row
                 × (length left.now ≡ length ours.now) × (first + length left.now < 2 ^ 32) × All (λ clerk. clerk ≡ fresh) ours.now }
-            ensures played { PlayedOn (setting_of R.table stage.entry.now.net.now) left.entry.now ours.exit.now result }
-            ensures notes { All (IsOfBook (book_of stage.entry.now.net.now)) ours.exit.now }
-        { play_all(rt, stage, first, left, ours) },
+            ensures played { PlayedOn (setting_of R.table context.entry.now.net.now) left.entry.now ours.exit.now result }
+            ensures notes { All (IsOfBook (book_of context.entry.now.net.now)) ours.exit.now }
+        { play_all(rt, context, first, left, ours) },
         &mut || -> Option<CallFault>
             requires { IsSync T.row × IsSync G.row × IsSend R.row × IsSync R.row
                 × (length right.now ≡ length theirs.now) × (second + length right.now < 2 ^ 32) × All (λ clerk. clerk ≡ fresh) theirs.now }
-            ensures played { PlayedOn (setting_of R.table stage.entry.now.net.now) right.entry.now theirs.exit.now result }
-            ensures notes { All (IsOfBook (book_of stage.entry.now.net.now)) theirs.exit.now }
-        { play_all(rt, stage, second, right, theirs) },
+            ensures played { PlayedOn (setting_of R.table context.entry.now.net.now) right.entry.now theirs.exit.now result }
+            ensures notes { All (IsOfBook (book_of context.entry.now.net.now)) theirs.exit.now }
+        { play_all(rt, context, second, right, theirs) },
     )
 }

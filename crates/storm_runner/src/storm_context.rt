@@ -1,4 +1,4 @@
-//! What scripts are played on: a network, a gate and a crew.
+//! What scripts are played on: a network, a gate, and how many workers there are.
 
 ghost use Rattle.std.specs.Prelude.{◌≡◌, ◌<◌, ◌≤◌, length};
 ghost use Rattle.std.specs.List.{All};
@@ -35,31 +35,31 @@ pub(crate) struct StormContext<'a, R: Rules, G: Gate> {
     pub alloc: Global,
     pub net: &'a LockedNet<R>,
     pub gate: &'a G,
-    pub crew: WorkerConfig,
+    pub config: WorkerConfig,
 }
 
 /// Plays a script line by line, up to its end or its first fault.
 fn play_script<R: Rules + Sync, G: Gate, T: Threads + Wait + Sync>(
     rt: &T,
-    stage: &StormContext<R, G>,
+    context: &StormContext<R, G>,
     number: u32,
     script: &Script,
     clerk: &mut Clerk,
 ) -> Result<(), CallFault>
     requires { clerk.old ≡ fresh }
-    ensures played { MayEndScript (scene_of (setting_of R.table stage.now.net.now) clerk.new) script.now clerk.new (result_err result) }
-    ensures note { IsOfBook (book_of stage.now.net.now) clerk.new }
+    ensures played { MayEndScript (scene_of (setting_of R.table context.now.net.now) clerk.new) script.now clerk.new (result_err result) }
+    ensures note { IsOfBook (book_of context.now.net.now) clerk.new }
 {
     for line in script.lines() {
-        stage.gate.pass(rt, number, line.line);
-        play(rt, stage, clerk, &line.command)?;
+        context.gate.pass(rt, number, line.line);
+        play(rt, context, clerk, &line.command)?;
     }
     Ok(())
 }
 
 pub(crate) fn play_first<R: Rules + Sync, G: Gate, T: Threads + Wait + Sync>(
     rt: &T,
-    stage: &StormContext<R, G>,
+    context: &StormContext<R, G>,
     number: u32,
     scripts: &[Script],
     clerks: &mut [Clerk],
@@ -67,11 +67,11 @@ pub(crate) fn play_first<R: Rules + Sync, G: Gate, T: Threads + Wait + Sync>(
     requires few { length scripts.now < 2 }
     requires size { length scripts.now ≡ length clerks.old }
     requires fresh { All (λ clerk. clerk ≡ fresh) clerks.old }
-    ensures played { AllStop (setting_of R.table stage.now.net.now) scripts.now clerks.new result }
-    ensures notes { All (IsOfBook (book_of stage.now.net.now)) clerks.new }
+    ensures played { AllStop (setting_of R.table context.now.net.now) scripts.now clerks.new result }
+    ensures notes { All (IsOfBook (book_of context.now.net.now)) clerks.new }
 {
     if scripts.is_empty() {
         return None;
     }
-    play_script(rt, stage, number, &scripts[0], &mut clerks[0]).err()
+    play_script(rt, context, number, &scripts[0], &mut clerks[0]).err()
 }

@@ -40,12 +40,12 @@ fn play<R: Rules + Send + Sync, G: Gate + Sync, T: Threads + Wait + Sync>(
     ensures fault { IfErr result (FailsToPlay R.table (start_of (asked_of options.now) restart) scripts.now) }
 {
     let net = net_for(rt, alloc, options, restart)?;
-    let crew = WorkerConfig {
+    let config = WorkerConfig {
         workers: options.workers(),
         roamers: options.roamers(),
         turns: options.turns(),
     };
-    Ok(play_scripts(rt, alloc, net, scripts, crew, gate)?)
+    Ok(play_scripts(rt, alloc, net, scripts, config, gate)?)
 }
 
 fn storm_on<

@@ -21,6 +21,8 @@ use rule_machine::{Node, Rules, asks_for};
 impl<R: Rules> Observer for Suitors<R> {
     ghost fits = { λ net it. IsIndexed R.COURTS_HIGHER_ONLY R.table.opens net.state it.tallies.items };
 
+    ghost stays = { λ names it. Unit {0} };
+
     #[inline(always)]
     fn saw(&mut self, net: &NetState, change: Change) {
         let _ = self.follow(net, change);

@@ -16,10 +16,11 @@ use std::alloc::Global;
 pub fn picture(alloc: Global, judge: &Judge, rules: RuleSet) -> Result<Vec<u8>, Want>
     ensures { IfOk result (λ text. text.items ≡ picture_of rules judge.now) }
 {
+    let net = judge.net();
     let mut out = Vec::new(alloc);
     out.extend_from_slice(b"graph matching {\n")?;
-    put_nodes(&mut out, judge, rules)?;
-    put_edges(&mut out, judge)?;
+    put_nodes(&mut out, net, rules)?;
+    put_edges(&mut out, net)?;
     out.extend_from_slice(b"}\n")?;
     Ok(out)
 }

@@ -7,7 +7,8 @@ ghost use Rattle.rule_machine.specs.Tables.{table_of};
 ghost use Rattle.transcript_view.specs.Picture.{fill_text, node_line, rule_text};
 
 use crate::words::{put_act, put_name};
-use reply_checker::Judge;
+use net_state::NetState;
+use reply_checker::rule_at;
 use rule_machine::{Act, Node, RuleSet, Want};
 
 fn put_rule(out: &mut Vec<u8>, rule: Option<Act>) -> Result<(), Want>
@@ -29,41 +30,41 @@ fn put_fill(out: &mut Vec<u8>, married: bool) -> Result<(), Want>
     Ok(())
 }
 
-fn put_node(out: &mut Vec<u8>, judge: &Judge, rules: RuleSet, v: Node) -> Result<(), Want>
-    requires { IsTrue (present judge.now.network v) }
-    ensures { OnOk result (out.new.items ≡ out.old.items ++ node_line (table_of rules) judge.now v) }
+fn put_node(out: &mut Vec<u8>, net: &NetState, rules: RuleSet, v: Node) -> Result<(), Want>
+    requires { IsTrue (present net.now.state.network v) }
+    ensures { OnOk result (out.new.items ≡ out.old.items ++ node_line (table_of rules) net.now.state v) }
 {
     put_name(out, v)?;
     out.extend_from_slice(b" [label=\"")?;
     put_name(out, v)?;
-    put_rule(out, judge.rule_at(rules, v))?;
+    put_rule(out, rule_at(net, rules, v))?;
     out.extend_from_slice(b"\"")?;
-    put_fill(out, judge.married(v))?;
+    put_fill(out, net.married(v))?;
     out.extend_from_slice(b"];\n")
 }
 
 #[tactic(auto, using(crate::proofs::Names::drawn, crate::proofs::Names::left_out))]
 fn put_node_if_present(
     out: &mut Vec<u8>,
-    judge: &Judge,
+    net: &NetState,
     rules: RuleSet,
     v: Node,
 ) -> Result<(), Want>
     ensures { OnOk result (out.new.items ≡ out.old.items
-        ++ flat_map (node_line (table_of rules) judge.now) (filter (present judge.now.network) (v ∷ []))) }
+        ++ flat_map (node_line (table_of rules) net.now.state) (filter (present net.now.state.network) (v ∷ []))) }
 {
-    if judge.has(v) {
-        return put_node(out, judge, rules, v);
+    if net.has(v) {
+        return put_node(out, net, rules, v);
     }
     Ok(())
 }
 
-pub(crate) fn put_nodes(out: &mut Vec<u8>, judge: &Judge, rules: RuleSet) -> Result<(), Want>
-    ensures { OnOk result (out.new.items ≡ out.old.items ++ flat_map (node_line (table_of rules) judge.now) (names judge.now.network)) }
+pub(crate) fn put_nodes(out: &mut Vec<u8>, net: &NetState, rules: RuleSet) -> Result<(), Want>
+    ensures { OnOk result (out.new.items ≡ out.old.items ++ flat_map (node_line (table_of rules) net.now.state) (names net.now.state.network)) }
 {
-    for name in 1..judge.capacity() + 1 {
+    for name in 1..net.capacity() + 1 {
         let v = Node::new(name).unwrap();
-        put_node_if_present(out, judge, rules, v)?;
+        put_node_if_present(out, net, rules, v)?;
     }
     Ok(())
 }

@@ -10,9 +10,8 @@ ghost use Rattle.locked_net.specs.ClerkCalls.{each, HeldCall};
 ghost use Rattle.locked_net.specs.declared.call_fault.CallFault.TheVariants.{Memory};
 
 use super::Clerk;
-use super::calls::keep;
 use crate::CallFault;
-use crate::published_journal::PublishedJournal;
+use crate::published_journal::{PublishedJournal, RecordedEvent};
 use rule_engine::{Choice, Reply, Rules, Verdict};
 use std::sync::Wait;
 
@@ -20,19 +19,21 @@ impl Clerk {
     pub(crate) fn record_judged<R: Rules, W: Wait>(
         &mut self,
         rt: &W,
-        desk: &mut PublishedJournal<R>,
+        published: &mut PublishedJournal<R>,
         choice: Choice,
         verdicts: &[Verdict],
     ) -> Result<Reply, CallFault>
-        requires free { call_fault (seen_by self.old) desk.old.log ≡ None }
-        requires verdicts { verdicts.now ≡ verdicts_of R.table desk.old.log.state choice }
-        ensures recorded { IfOk result (RecordsEvent R.table desk.old.log desk.new.log self.old.receipts self.new.receipts (Step choice)) }
-        ensures call { HeldCall each desk.old desk.new self.old self.new result }
-        ensures counting { IfOk result (λ reply. desk.new.counting ≡ next_counting R.table reply desk.new.log.state desk.old.counting) }
+        requires free { call_fault (seen_by self.old) published.old.log ≡ None }
+        requires verdicts { verdicts.now ≡ verdicts_of R.table published.old.log.state choice }
+        ensures recorded { IfOk result (RecordsEvent R.table published.old.log published.new.log self.old.receipts self.new.receipts (Step choice)) }
+        ensures call { HeldCall each published.old published.new self.old self.new result }
+        ensures counting { IfOk result (λ reply. published.new.counting ≡ next_counting R.table reply published.new.log.state published.old.counting) }
         ensures fault { IfErr result (λ fault. fault ≡ Memory) }
     {
         self.receipts.reserve(1)?;
-        let recorded = desk.record_step(rt, choice, verdicts)?;
-        Ok(keep(&mut self.receipts, &mut self.note, recorded))
+        let recorded = published.record_step(rt, choice, verdicts, &mut self.receipts)?;
+        let RecordedEvent { reply, note } = recorded;
+        self.note = Some(note);
+        Ok(reply)
     }
 }

@@ -23,7 +23,7 @@ impl<R: Rules> HeldNet<'_, R> {
         ensures counting { IfOk result (λ reply. self.new.counting ≡ next_counting R.table reply self.new.log.state self.old.counting) }
         ensures admitted { Admits (call_fault (seen_by clerk.old) self.old.log) result }
     {
-        clerk.may_call(&self.desk)?;
-        clerk.record_on(rt, &mut self.desk, event)
+        clerk.may_call(&self.published)?;
+        clerk.record_on(rt, &mut self.published, event)
     }
 }

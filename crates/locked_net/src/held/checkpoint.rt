@@ -19,8 +19,8 @@ impl<R: Rules> HeldNet<'_, R> {
         ensures admitted { Admits (checkpoint_fault (seen_by clerk.old) self.old.log) result }
         ensures kept { OnErr result ((clerk.new ≡ clerk.old) × (self.new ≡ self.old)) }
     {
-        clerk.keeps_up(&self.desk)?;
-        let number = self.desk.checkpoint()?;
+        clerk.keeps_up(&self.published)?;
+        let number = self.published.checkpoint()?;
         clerk.take_base(number);
         Ok(number)
     }

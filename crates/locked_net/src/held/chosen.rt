@@ -33,9 +33,13 @@ impl<R: Rules> HeldNet<'_, R> {
         ensures admitted { Admits (call_fault (seen_by clerk.old) self.old.log) result }
         ensures unasked { IfErr result (λ fault. (fault ≢ Memory) → daemon.new ≡ daemon.old) }
     {
-        clerk.may_call(&self.desk)?;
-        match daemon.choose(self.desk.net().enabled(), R::CENTRAL)? {
-            Some(choice) => Ok(Some(clerk.record_on(rt, &mut self.desk, Event::Step(choice))?)),
+        clerk.may_call(&self.published)?;
+        match daemon.choose(self.published.net().enabled(), R::CENTRAL)? {
+            Some(choice) => Ok(Some(clerk.record_on(
+                rt,
+                &mut self.published,
+                Event::Step(choice),
+            )?)),
             None => Ok(None),
         }
     }
@@ -57,9 +61,9 @@ impl<R: Rules> HeldNet<'_, R> {
         ensures admitted { Admits (call_fault (seen_by clerk.old) self.old.log) result }
         ensures unasked { IfErr result (λ fault. (fault ≢ Memory) → injector.new ≡ injector.old) }
     {
-        clerk.may_call(&self.desk)?;
-        match injector.draw(self.desk.net()) {
-            Some(event) => Ok(Some(clerk.record_on(rt, &mut self.desk, event)?)),
+        clerk.may_call(&self.published)?;
+        match injector.draw(self.published.net()) {
+            Some(event) => Ok(Some(clerk.record_on(rt, &mut self.published, event)?)),
             None => Ok(None),
         }
     }

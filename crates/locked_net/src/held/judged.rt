@@ -28,15 +28,15 @@ impl<R: Rules + Sync> HeldNet<'_, R> {
         ensures counting { IfOk result (λ reply. self.new.counting ≡ next_counting R.table reply self.new.log.state self.old.counting) }
         ensures admitted { AdmitsStep (call_fault (seen_by clerk.old) self.old.log) workers result }
     {
-        clerk.may_call(&self.desk)?;
+        clerk.may_call(&self.published)?;
         let verdicts = evaluate(
             rt,
             self.net.alloc(),
-            self.desk.net(),
+            self.published.net(),
             &choice,
             workers,
             gate,
         )?;
-        Ok(clerk.record_judged(rt, &mut self.desk, choice, &verdicts)?)
+        Ok(clerk.record_judged(rt, &mut self.published, choice, &verdicts)?)
     }
 }

@@ -26,24 +26,24 @@ impl<R: Rules> HeldNet<'_, R> {
         ensures free { OnOk result (fault_of_turn R.table (seen_by clerk.old) self.old.log turn ≡ None) }
         ensures fault { IfErr result (λ fault. FaultInTurn R.table (seen_by clerk.old) self.old.log turn fault) }
     {
-        match next_mover(&self.desk, turn) {
+        match next_mover(&self.published, turn) {
             Some(node) => {
                 let choice = Choice::one(Item { node, wish: None });
                 Ok(Some(self.call(rt, clerk, Event::Step(choice))?))
             }
             None => {
-                clerk.keeps_up(&self.desk)?;
+                clerk.keeps_up(&self.published)?;
                 Ok(None)
             }
         }
     }
 }
 
-fn next_mover<R: Rules>(desk: &PublishedJournal<R>, turn: u32) -> Option<Node>
-    ensures mover { result ≡ mover R.table desk.now.log.state turn }
-    ensures run { IsWholeLog R.table desk.now.log }
+fn next_mover<R: Rules>(published: &PublishedJournal<R>, turn: u32) -> Option<Node>
+    ensures mover { result ≡ mover R.table published.now.log.state turn }
+    ensures run { IsWholeLog R.table published.now.log }
 {
-    let enabled = desk.net().enabled();
+    let enabled = published.net().enabled();
     match enabled.count() {
         0 => None,
         count => enabled.nth(turn % count),

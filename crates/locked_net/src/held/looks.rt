@@ -18,14 +18,14 @@ impl<R: Rules> HeldNet<'_, R> {
         ensures counting { result.now.counting ≡ self.now.counting }
         ensures counted { CountsWholeLog R.table self.now.log self.now.counted_from self.now.counting }
     {
-        self.desk.net()
+        self.published.net()
     }
 
     /// A note of what is published: the whole log under the lock. Takes no memory.
     pub fn note(&self) -> Note
         ensures { (result.log ≡ self.now.log.entries) × (result.book ≡ self.now.name.book) }
     {
-        self.desk.note()
+        self.published.note()
     }
 
     pub(crate) fn reader<W: Wait>(&mut self, rt: &W) -> Result<Reader<Runs<R>>, NoPlace>
@@ -33,6 +33,6 @@ impl<R: Rules> HeldNet<'_, R> {
         ensures name { IfOk result (λ reader. reader.name ≡ self.old.name) }
         ensures seen { IfOk result (λ reader. (reader.list ≡ self.old.log.entries) × (reader.learnt ≡ self.old.log.entries)) }
     {
-        self.desk.reader(rt)
+        self.published.reader(rt)
     }
 }

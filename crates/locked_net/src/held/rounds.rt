@@ -16,7 +16,7 @@ impl<R: Rules> HeldNet<'_, R> {
         ensures ok { OnOk result (self.new ≡ counting_held R.table self.old) }
         ensures err { OnErr result (self.new ≡ self.old) }
     {
-        self.desk.count_rounds()
+        self.published.count_rounds()
     }
 }
 
@@ -28,6 +28,6 @@ impl<R: NodeBound> HeldNet<'_, R> {
         ensures left { LeavesIfCounted R.table (moment_in self.old.log) self.old.counting result }
         ensures kept { self.new ≡ self.old }
     {
-        self.desk.rounds_left()
+        self.published.rounds_left()
     }
 }

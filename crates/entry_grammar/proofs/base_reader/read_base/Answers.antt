@@ -10,14 +10,12 @@ returns-in_default-clause-bad c k e = subst (BreaksAt c.args.bytes.now) (same_li
 
 pub returns-in_err-nodes-clause-bad : goal.returns-in_err-nodes-clause-bad
 returns-in_err-nodes-clause-bad c =
-    let numbers : ℕ × ℕ × ℕ × ℕ = (c.in-Some.number, c.in-Some.spent, c.in-Some.node_count, c.in-Some.edge_count) in
     by_error c.from_residual.result _ _ c.from_residual.ensures.1 (λ fault q k is.
-    node_breaks c.args.bytes.now numbers c.in-Some.rest.now k c.in-Some.ensures (c.in_err-nodes.ensures.bad k (sym q ∙ is)))
+    node_breaks c.args.bytes.now c.in-Some.numbers c.in-Some.rest.now k c.in-Some.ensures (c.in_err-nodes.ensures.bad k (sym q ∙ is)))
 
 pub returns-in_err-edges-clause-bad : goal.returns-in_err-edges-clause-bad
 returns-in_err-edges-clause-bad c =
-    let numbers : ℕ × ℕ × ℕ × ℕ = (c.in-Some.number, c.in-Some.spent, c.in-Some.node_count, c.in-Some.edge_count) in
     let nodes = c.in_ok-nodes.ensures in
     by_error c.from_residual-in_err-edges.result _ _ c.from_residual-in_err-edges.ensures.1 (λ fault q k is.
-    edge_breaks c.args.bytes.now numbers c.in-Some.rest.now c.in_ok-nodes.nodes.items c.in_ok-nodes.rest.now k c.in-Some.ensures nodes.read nodes.all
-    (subst (λ (n : ℕ). EdgesBreak c.in_ok-nodes.rest.now c.in-Some.edge_count (n + 2) k) c.from.ensures (c.in_err-edges.ensures.bad k (sym q ∙ is))))
+    edge_breaks c.args.bytes.now c.in-Some.numbers c.in-Some.rest.now c.in_ok-nodes.nodes.items c.in_ok-nodes.rest.now k c.in-Some.ensures nodes.read nodes.all
+    (subst (λ (n : ℕ). EdgesBreak c.in_ok-nodes.rest.now c.in-Some.numbers.edges (n + 2) k) c.from.ensures (c.in_err-edges.ensures.bad k (sym q ∙ is))))

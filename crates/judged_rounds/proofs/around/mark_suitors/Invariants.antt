@@ -2,4 +2,4 @@ use Rattle.judged_rounds.proofs.Prelude.{take, list_any, is_near_suitor, MarksAl
 use Rattle.judged_rounds.proofs.around.mark_suitors.Given as goal
 
 abbrev pub invariant-loop-w : goal.invariant-loop-w
-invariant-loop-w l = MarksAll l.size (λ u. list_any (λ w. is_near_suitor l.judge l.v w u) (take l.w-index l.row)) l.fn.due l.due
+invariant-loop-w l = MarksAll l.size (λ u. list_any (λ w. is_near_suitor l.net.state l.v w u) (take l.w-index l.row)) l.fn.due l.due

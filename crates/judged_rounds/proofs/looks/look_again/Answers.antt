@@ -13,6 +13,7 @@ loop-v-preserved c =
     let i = c.loop-v.invariant in
     record {
       on = λ first. looked_more t s c.loop-v.enabled c.look.new.enabled c.loop-v.due c.take.new.self v c.in-Some.ensures.some c.in-Some.ensures.taken c.look.ensures.set (i.on first);
+      noted = λ before first. c.look.ensures.noted before (i.noted before first);
       places = ap length c.look.ensures.set ∙ length-set c.loop-v.enabled v (is_on t s v) ∙ i.places;
       due_places = ap length c.in-Some.ensures.taken ∙ length-set c.loop-v.due v _ ∙ i.due_places;
       caller_places = c.look.ensures.places ∙ i.caller_places;

@@ -1,4 +1,4 @@
-use Rattle.net_state.proofs.Prelude.{◌≡◌, fold, drop, pointer_written}
+use Rattle.net_state.proofs.Prelude.{◌≡◌, List, Bool, fold, drop, pointer_written}
 use Rattle.net_state.proofs.disturb.write_pointers.Given as goal
 
 abbrev pub invariant-loop-moved : goal.invariant-loop-moved
@@ -6,4 +6,5 @@ invariant-loop-moved g l = record {
   rest : fold pointer_written l.net.state.registers (drop l.moved-index l.moves) ≡ fold pointer_written l.fn.net.state.registers l.moves;
   network : l.net.state.network ≡ l.fn.net.state.network;
   fits : g.O.Observer.fits l.net l.seen;
+  stays : (names : List Bool) → g.O.Observer.stays names l.fn.seen → g.O.Observer.stays names l.seen;
 }

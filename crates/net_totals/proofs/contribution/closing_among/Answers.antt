@@ -1,5 +1,4 @@
-use Rattle.net_totals.proofs.Prelude.{◌&&◌, ◌∙◌, ◌≤◌, ℕ, Bool, cond, count_by, length, ap, sym, subst, arith, take_all, neighbours, points, StateView, one_byte}
-use Rattle.net_totals.proofs.NodeScans.{few_neighbours}
+use Rattle.net_totals.proofs.Prelude.{◌&&◌, ◌∙◌, ◌≤◌, ℕ, Bool, cond, count_by, length, ap, sym, subst, arith, take_all, neighbours, points, StateView, one_byte, few_neighbours}
 use Rattle.net_totals.proofs.ContributionSums.{counted_more, few_bytes}
 use Rattle.net_totals.proofs.contribution.closing_among.Goals as goal
 

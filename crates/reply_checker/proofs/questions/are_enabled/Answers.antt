@@ -8,7 +8,7 @@ same_nodes xs ys e = cc
 pub returns-then-given-totals-clause-value : goal.returns-then-given-totals-clause-value
 returns-then-given-totals-clause-value c =
     let t = table_of c.args.rules in
-    let s = c.args.survey.now.net.state in
+    let s = c.args.counted.now.net.state in
     let given = c.as_slice-given.result.now in
     let reply = c.in-EnabledAre.is ∙ ap EnabledAre (sym c.as_slice-given.ensures) in
     let walked = subst (λ (u : State). IsTrue c.are_ruled.result ↔ AreRising (ruled_node t u) 0 given) c.totals-totals.ensures.kept
@@ -19,7 +19,7 @@ returns-then-given-totals-clause-value c =
 pub returns-else-given-totals-clause-value : goal.returns-else-given-totals-clause-value
 returns-else-given-totals-clause-value c =
     let t = table_of c.args.rules in
-    let s = c.args.survey.now.net.state in
+    let s = c.args.counted.now.net.state in
     let given = c.as_slice-given.result.now in
     let reply = c.in-EnabledAre.is ∙ ap EnabledAre (sym c.as_slice-given.ensures) in (
       λ yes. absurd (c.if-given-totals.false (eqb-true (length given) c.totals-totals.result.enabled yes)),

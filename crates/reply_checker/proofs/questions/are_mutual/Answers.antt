@@ -7,7 +7,7 @@ same_pairs xs ys e = cc
 
 pub returns-then-given-totals-clause-value : goal.returns-then-given-totals-clause-value
 returns-then-given-totals-clause-value c =
-    let s = c.args.survey.now.net.state in
+    let s = c.args.counted.now.net.state in
     let given = c.as_slice-given.result.now in
     let reply = c.in-Pairs.is ∙ ap Pairs (sym c.as_slice-given.ensures) in
     let walked = subst (λ (u : State). IsTrue c.are_pairs.result ↔ AreRising (lower_end_pair u) 0 given) c.totals-totals.ensures.kept c.are_pairs.ensures in

@@ -1,4 +1,4 @@
-use Rattle.std.proofs.Common.{◌∙◌, Option, sym, ap, subst}
+use Rattle.std.proofs.Common.{◌∙◌, Option, Some, sym, ap, subst}
 use Rattle.script_text.specs.declared.command.Command.{Command}
 use Rattle.script_text.specs.Command.{IsCommand}
 use Rattle.std.specs.Prelude.{SomeIff}
@@ -12,20 +12,9 @@ pub returns : goal.returns
 returns c asked given =
     let both = subst (λ (o : Option Command). SomeIff o (IsCommand asked) asked) c.in-Some.is given in
     let good = subst IsCommand (sym both.1) both.0 in
+    let did = c.follow-done.ensures in
     subst (λ (k : Command). AnswersCommand k c.status_of-status.result c.of.result c.args.slot.now.handle.value c.put_back.new.self.handle.value) both.1
-    (was_called good (record {
-      from = c.in-Some-take.session.value;
-      borrowed = c.deref_mut.result.now;
-      followed = c.follow-done.new.self;
-      was = c.in-Some-take.ensures.some;
-      same = c.deref_mut.ensures.value;
-      ends = c.follow-done.ensures.ends;
-      silent = c.follow-done.ensures.silent;
-      number = c.follow-done.ensures.number;
-      reply = c.follow-done.ensures.reply;
-      goes_on = record { rules = c.follow-done.ensures.rules; limit = c.follow-done.ensures.limit; keeps = c.follow-done.ensures.keeps };
-      lines = c.follow-done.ensures.lines;
-      back = c.put_back.ensures;
-    })
+    (was_called c.follow-done.result c.deref_mut.result.now c.follow-done.new.self good (c.in-Some-take.ensures.some ∙ ap (λ (s : Session). Some s) (sym c.deref_mut.ensures.value))
+    did.ends did.silent did.number did.reply did.same did.lines did.keeps c.put_back.ensures
     (c.status_of-status.ensures ∙ ap (λ (s : Session). command_status s.answer.reply c.follow-done.result) c.deref.ensures)
     (c.of.ensures ∙ ap (λ (s : Session). told_of s.answer.seq s.answer.reply) c.deref-2.ensures))

@@ -15,9 +15,9 @@ returns-in-Ok c =
     let none : c.move_told.result.fault ≡ 0 = ap (λ r. r.fault) c.move_told.ensures ∙ told_no_fault own c.in-Ok.made in
     record {
       done = λ _ _. (
-        c.in-Some.set,
+        c.in-Some.value,
         sym c.in-Some.ensures,
-        λ s shows. c.move_told.ensures ∙ told_from c.in-Some.set own around node c.in-Ok.made same names c.in-Ok.ensures.machine s shows,
+        λ s shows. c.move_told.ensures ∙ told_from c.in-Some.value own around node c.in-Ok.made same names c.in-Ok.ensures.machine s shows,
       );
       shown = λ _ _. shown_from own around node same names c.in-Ok.ensures.shown;
       never = λ e. absurd (e none);

@@ -13,11 +13,11 @@ returns-in-Ok c =
     let names : AllByRecursion AreNames around = c.are_named.ensures.0 c.if-not-are_named.false in
     record {
       done = λ _. (
-        c.in-Some.set,
+        c.in-Some.value,
         sym c.in-Some.ensures,
-        c.in-Some-rule_given.act,
+        c.in-Some-rule_given.value,
         sym c.in-Some-rule_given.ensures,
-        may_from c.in-Some.set own around node c.in-Some-rule_given.act c.in-Some-target_given.wish (pointer_named c.args.target) c.in-Ok.allowed same names c.in-Some-target_given.ensures.1 c.in-Ok.ensures.machine,
+        may_from c.in-Some.value own around node c.in-Some-rule_given.value c.in-Some-target_given.value (pointer_named c.args.target) c.in-Ok.allowed same names c.in-Some-target_given.ensures.1 c.in-Ok.ensures.machine,
       );
       shown = λ _. shown_from own around node same names c.in-Ok.ensures.shown;
       never = λ e. absurd (omega (arith, e));

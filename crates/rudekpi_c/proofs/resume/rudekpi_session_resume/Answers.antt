@@ -7,13 +7,13 @@ returns-in-Err c =
     let found = c.in-Err.ensures in
     not_resumed c.args.bytes.now c.in-Err.fault _ _ _ (end_judged c.args.bytes.now (Err c.in-Err.fault) _ c.told.ensures found.ended found.accepts_runs found.names_damage) c.told.ensures found.ended c.status_of.ensures c.take.ensures.left
 
-pub returns-in_default : goal.returns-in_default
-returns-in_default c =
+pub returns-in-Err-resume : goal.returns-in-Err-resume
+returns-in-Err-resume c =
     let found = c.in-Ok.ensures in
     left_out c.args.bytes.now c.in-Ok.end _ _ (end_judged c.args.bytes.now (Ok c.in-Ok.end) _ c.told-2.ensures found.ended found.accepts_runs found.names_damage) c.told-2.ensures found.ended c.take.ensures.left
 
-pub returns-in_default-new : goal.returns-in_default-new
-returns-in_default-new c =
+pub returns-in-Err-new : goal.returns-in-Err-new
+returns-in-Err-new c =
     let found = c.in-Ok.ensures in
     left_out c.args.bytes.now c.in-Ok.end _ _ (end_judged c.args.bytes.now (Ok c.in-Ok.end) _ c.told-2.ensures found.ended found.accepts_runs found.names_damage) c.told-2.ensures found.ended c.take.ensures.left
 
@@ -24,12 +24,12 @@ returns c =
       inl (
         refl,
         record {
-          session = c.in-Ok-resume.session;
+          session = c.in-Ok-resume.value;
           is = c.put.ensures ∙ ap (λ s. Some s) c.in-Ok-new.ensures.ok;
           end = c.in-Ok.end;
           ended = found.ended;
           counts = c.told-2.ensures;
-          goes_on = c.in-Ok-resume.ensures;
+          starts = c.in-Ok-resume.ensures;
         },
       ),
     )

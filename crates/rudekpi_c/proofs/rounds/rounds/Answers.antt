@@ -1,5 +1,4 @@
-use Rattle.std.proofs.Common.{◌≡◌, ◌∙◌, IfSome, Option, ap, subst}
-use Rattle.rule_machine.specs.State.{State}
+use Rattle.std.proofs.Common.{◌∙◌, IfSome, Option, ap, subst}
 use Rattle.rule_machine.specs.Run.{Moment}
 use Rattle.round_laws.specs.RoundCounts.{RoundCount, rounds_of}
 use Rattle.rule_engine.specs.Rounds.{HasRounds}

@@ -1,4 +1,4 @@
-use Rattle.std.proofs.Common.{◌∙◌, ◌++◌, map, take, drop, set, ap}
+use Rattle.std.proofs.Common.{◌∙◌, ◌++◌, map, take, drop, set, ap, arith}
 use Rattle.rudekpi_c.proofs.RowOutput.{row_more}
 use Rattle.rudekpi_c.proofs.row.put_rows.Goals as goal
 
@@ -9,4 +9,4 @@ loop-at-preserved g c =
     let out = c.args.out.now in
     let at = c.loop-at.at in
     ap (λ rows. set rows at c.row.result) c.loop-at.invariant ∙ ap (λ r. set (map row (take at items) ++ drop at out) at r) c.row.ensures
-    ∙ row_more row items out at c.index-items-at.result c.loop-at-test.true c.requires c.index-items-at.is
+    ∙ row_more row items out at c.index-items-at.result c.loop-at-test.true (omega (arith, c.if-items-out.false)) c.index-items-at.is

@@ -1,4 +1,5 @@
-use Rattle.std.proofs.Common.{◌∙◌, ap}
+use Rattle.std.proofs.Common.{◌∙◌, Some, sym, ap}
+use Rattle.rudekpi_c.specs.declared.session.Session.{Session}
 use Rattle.rudekpi_c.specs.Session.{stands}
 use Rattle.rudekpi_c.proofs.TextTransfer.{handed_none, handed_all}
 use Rattle.rudekpi_c.proofs.sessions.rudekpi_session_read.Goals as goal
@@ -8,5 +9,6 @@ returns-then-len-out c = handed_none _ c.in-Some.ensures.some c.put.ensures (c.t
 
 pub returns : goal.returns
 returns c =
-    handed_all _ c.in-Some.ensures.some c.put-2.ensures c.deref_mut.ensures.value c.forget_text.ensures.stands c.forget_text.ensures.rules c.forget_text.ensures.limit c.forget_text.ensures.keeps c.forget_text.ensures.lines c.forget_text.ensures.answer
-    (c.text-text.ensures ∙ ap (λ s. (stands s).text) c.deref.ensures) c.copy_from_slice.ensures.after c.if-len-out.false
+    let same = c.deref_mut.ensures.value in
+    handed_all _ (c.in-Some.ensures.some ∙ ap (λ (s : Session). Some s) (sym same)) c.put-2.ensures c.settle.ensures.same c.settle.ensures.stands
+    (c.text-text.ensures ∙ ap (λ (s : Session). (stands s).text) (c.deref.ensures ∙ sym same)) c.copy_from_slice.ensures.after c.if-len-out.false

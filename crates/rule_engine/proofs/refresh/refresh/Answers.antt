@@ -29,24 +29,24 @@ pointed-requires-clause-none g c = λ off. none_as g.R.Rules.COURTS_HIGHER_ONLY 
 pub flagged-requires-clause-none : goal.flagged-requires-clause-none
 flagged-requires-clause-none g c = λ off. none_as g.R.Rules.COURTS_HIGHER_ONLY g.R.Rules.table.opens c.args.state.now.state _ _ c.in-Flagged.is (c.requires.none off)
 
-pub returns-in-Linked : goal.returns-in-Linked
-returns-in-Linked g c =
+pub returns-in-Linked-clause-set : goal.returns-in-Linked-clause-set
+returns-in-Linked-clause-set g c =
     let told = told_as _ _ _ _ _ c.in-Linked.is c.requires.told in
     let s : State = told.0.state in
-    kept_ends g.R.Rules.table g.R.Rules.laws.is_local s c.args.state.now.state (with_edge s.network c.in-Linked.a c.in-Linked.b) c.in-Linked.a c.in-Linked.b _ _ told.1.0.was_state told.1.1 told.1.0.is_state told.1.0.made refl (λ x. refl) (link_far s c.in-Linked.a c.in-Linked.b) c.look_at_ends.ensures
+    kept_ends g.R.Rules.table g.R.Rules.laws.is_local s c.args.state.now.state (with_edge s.network c.in-Linked.a c.in-Linked.b) c.in-Linked.a c.in-Linked.b _ _ told.1.0.was_state told.1.1 told.1.0.is_state told.1.0.made refl (λ x. refl) (link_far s c.in-Linked.a c.in-Linked.b) c.look_at_ends.ensures.set
 
-pub returns-in-Unlinked : goal.returns-in-Unlinked
-returns-in-Unlinked g c =
+pub returns-in-Unlinked-clause-set : goal.returns-in-Unlinked-clause-set
+returns-in-Unlinked-clause-set g c =
     let told = told_as _ _ _ _ _ c.in-Unlinked.is c.requires.told in
     let s : State = told.0.state in
-    kept_ends g.R.Rules.table g.R.Rules.laws.is_local s c.args.state.now.state (without_edge s.network c.in-Unlinked.a c.in-Unlinked.b) c.in-Unlinked.a c.in-Unlinked.b _ _ told.1.0.was_state told.1.1 told.1.0.is_state told.1.0.made refl (λ x. refl) (cut_far s c.in-Unlinked.a c.in-Unlinked.b) c.look_at_ends-in-Unlinked.ensures
+    kept_ends g.R.Rules.table g.R.Rules.laws.is_local s c.args.state.now.state (without_edge s.network c.in-Unlinked.a c.in-Unlinked.b) c.in-Unlinked.a c.in-Unlinked.b _ _ told.1.0.was_state told.1.1 told.1.0.is_state told.1.0.made refl (λ x. refl) (cut_far s c.in-Unlinked.a c.in-Unlinked.b) c.look_at_ends-in-Unlinked.ensures.set
 
 pub joined-requires-clause-told : goal.joined-requires-clause-told
 joined-requires-clause-told g c = told_as _ _ _ _ _ c.in-Joined.is c.requires.told
 
-pub returns-in-Removed : goal.returns-in-Removed
-returns-in-Removed g c =
+pub returns-in-Removed-clause-set : goal.returns-in-Removed-clause-set
+returns-in-Removed-clause-set g c =
     let told = told_as _ _ _ _ _ c.in-Removed.is c.requires.told in
     let change = told.1.0 in
-    subst (AreOn g.R.Rules.table c.args.state.now.state) (sym c.remove.ensures)
+    subst (AreOn g.R.Rules.table c.args.state.now.state) (sym c.remove_noted.ensures.set)
     (kept_left g.R.Rules.table g.R.Rules.laws.is_local told.0.state c.args.state.now.state c.in-Removed.v c.args.enabled.now change.was_state told.1.1 change.due.0 change.due.1.0 change.is_state change.made)

@@ -1,10 +1,8 @@
-use Rattle.rule_engine.proofs.Prelude.{◌∙◌, ◌≤◌, CountsRounds, CountsRun, counting_in, Some, ap, moment, subst, sym}
+use Rattle.rule_engine.proofs.Prelude.{◌∙◌, ◌≤◌, CountsRounds, CountsRun, counting_in, Some, ap, subst, sym}
 use Rattle.rule_engine.proofs.rounds.begin_step.Goals as goal
 
 pub returns-in-Some-clause-counts : goal.returns-in-Some-clause-counts
-returns-in-Some-clause-counts g c spent it =
-    let t = g.R.Rules.table in
-    let m = moment c.args.engine.now.state spent in
+returns-in-Some-clause-counts c t m here it =
     let was : CountsRun t m c.in-Some.counter = subst (λ o. CountsRounds t m o) c.in-Some.is it in
     record {
       start = was.start;
@@ -12,12 +10,9 @@ returns-in-Some-clause-counts g c spent it =
       log = was.log;
       run = was.run;
       calm = was.calm;
-      counted = c.begin_step.ensures.counted t was.start.state was.log m.state c.enabled.ensures was.counted;
+      counted = c.begin_step.ensures.counted t was.start.state was.log m.state here was.counted;
       few = subst (λ n. n ≤ m.spent) (sym c.begin_step.ensures.rounds) was.few;
     }
 
 pub returns-in-Some-clause-same : goal.returns-in-Some-clause-same
-returns-in-Some-clause-same g c =
-    let t = g.R.Rules.table in
-    let s = c.args.engine.now.state in
-    ap (λ n. Some n) (c.begin_step.ensures.count t s c.enabled.ensures) ∙ sym (ap (λ o. counting_in t s o) c.in-Some.is)
+returns-in-Some-clause-same c t s here = ap (λ n. Some n) (c.begin_step.ensures.count t s here) ∙ sym (ap (λ o. counting_in t s o) c.in-Some.is)

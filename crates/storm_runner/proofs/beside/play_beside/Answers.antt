@@ -6,6 +6,6 @@ pub returns-clause-told : goal.returns-clause-told
 returns-clause-told g c =
     let rows = c.split_at_mut-own in
     let told = c.play_and_roam-met in
-    let crew = c.args.stage.now.crew in
-    let size : length rows.result.1.now ≡ crew.roamers = omega arith in
-    told_beside (setting_of g.R.Rules.table c.args.stage.now.net.now) c.args.scripts.now crew.roamers crew.turns told.new.own rows.result.1.now told.new.roaming told.result.0 c.first_fault.result told.result.1 told.ensures.played told.ensures.roamed size c.first_fault.ensures
+    let config = c.args.context.now.config in
+    let size : length rows.result.1.now ≡ config.roamers = omega arith in
+    told_beside (setting_of g.R.Rules.table c.args.context.now.net.now) c.args.scripts.now config.roamers config.turns told.new.own rows.result.1.now told.new.roaming told.result.0 c.first_fault.result told.result.1 told.ensures.played told.ensures.roamed size c.first_fault.ensures

@@ -6,4 +6,4 @@ pub play_all-returns-clause-played : goal.play_all-returns-clause-played
 play_all-returns-clause-played g t c =
     let parts = c.split_at.result in
     let told = c.play_halves-fault in
-    halves_played (setting_of g.R.Rules.table c.args.stage.now.net.now) c.args.scripts.now parts.0.now parts.1.now _ told.new.ours told.new.theirs told.result.0 told.result.1 c.or.result c.split_at.ensures.front c.split_at.ensures.back c.or.ensures told.ensures.left told.ensures.right
+    halves_played (setting_of g.R.Rules.table c.args.context.now.net.now) c.args.scripts.now parts.0.now parts.1.now _ told.new.ours told.new.theirs told.result.0 told.result.1 c.or.result c.split_at.ensures.front c.split_at.ensures.back c.or.ensures told.ensures.left told.ensures.right

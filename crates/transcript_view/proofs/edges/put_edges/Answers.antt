@@ -4,8 +4,8 @@ use Rattle.transcript_view.proofs.edges.put_edges.Goals as goal
 
 pub loop-name-preserved : goal.loop-name-preserved
 loop-name-preserved c =
-    let here : ℕ → Bool = present c.args.judge.now.network in
-    let f : ℕ → List ℕ = edge_lines_at c.args.judge.now in
+    let here : ℕ → Bool = present c.args.net.now.state.network in
+    let f : ℕ → List ℕ = edge_lines_at c.args.net.now.state in
     let old = c.args.out.now.items in
     let n = c.loop-name.name in
     let so_far = old ++ flat_map f (filter here (range_with_len 1 (n - 1))) in

@@ -2,4 +2,4 @@ use Rattle.transcript_view.proofs.Prelude.{◌≡◌, ◌++◌, ◌-◌, filter,
 use Rattle.transcript_view.proofs.edges.put_edges.Given as goal
 
 abbrev pub invariant-loop-name : goal.invariant-loop-name
-invariant-loop-name l = l.out.items ≡ l.fn.out.items ++ flat_map (edge_lines_at l.judge) (filter (present l.judge.network) (range_with_len 1 (l.name - 1)))
+invariant-loop-name l = l.out.items ≡ l.fn.out.items ++ flat_map (edge_lines_at l.net.state) (filter (present l.net.state.network) (range_with_len 1 (l.name - 1)))

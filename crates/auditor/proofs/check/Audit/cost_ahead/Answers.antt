@@ -1,4 +1,4 @@
-use Rattle.auditor.proofs.Prelude.{◌∙◌, ap, subst, Event, cost_by, IsEntryAhead}
+use Rattle.auditor.proofs.Prelude.{◌∙◌, ap, subst, Event, Position, State, cost_by, IsEntryAhead}
 use Rattle.auditor.proofs.NextCosts.{next_cost, no_cost, none_cost}
 use Rattle.auditor.proofs.check.Audit.cost_ahead.Goals as goal
 
@@ -8,7 +8,8 @@ returns-in_default c rest ahead = none_cost c.args.rules c.args.self.now.state r
 pub returns-in-Accepted : goal.returns-in-Accepted
 returns-in-Accepted c rest ahead =
     let s = c.args.self.now.state in
-    next_cost c.args.rules s rest c.in-Some.entry c.cost_of.result (c.cost_of.ensures ∙ ap (λ (e : Event). cost_by c.args.rules s e) c.event.ensures.value) (subst (IsEntryAhead rest) c.in-Some.is ahead)
+    let here = c.net.ensures.value ∙ ap (λ (p : Position). p.state) c.self.view_is in
+    next_cost c.args.rules s rest c.in-Some.entry c.cost_of.result (c.cost_of.ensures ∙ ap (λ (u : State). cost_by c.args.rules u c.event.result.now) here ∙ ap (λ (e : Event). cost_by c.args.rules s e) c.event.ensures.value) (subst (IsEntryAhead rest) c.in-Some.is ahead)
 
 pub returns-in_default-reply : goal.returns-in_default-reply
 returns-in_default-reply c rest ahead =

@@ -8,9 +8,8 @@ lines_before-requires c = rest_few c.args.text.now c.requires.line.0 c.args.rest
 
 pub returns-clause-begins : goal.returns-clause-begins
 returns-clause-begins c =
-    let header = c.args.header in
     record {
-      opened = header_opened c.args.text.now c.requires.line.0 c.args.rest.now header.0 header.1 header.2 c.in_ok-judge.judge c.new.result c.requires.line.1 c.requires.line.2 c.in_ok-judge.ensures c.new.ensures;
+      opened = header_opened c.args.text.now c.requires.line.0 c.args.rest.now c.args.header c.in_ok-judge.judge c.new.result c.requires.line.1 c.requires.line.2 c.in_ok-judge.ensures c.new.ensures;
       counted = c.lines_before.ensures;
       unwanted = c.new-2.ensures.items;
       none_same = refl;

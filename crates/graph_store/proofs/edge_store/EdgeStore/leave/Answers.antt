@@ -3,7 +3,7 @@ use Rattle.graph_store.proofs.LeavingNodes.{without_edge_at, edge_falls, may_unl
 use Rattle.graph_store.proofs.edge_store.EdgeStore.leave.Goals as goal
 
 pub loop-w-init : goal.loop-w-init
-loop-w-init c = (sym c.has.ensures ∙ c.if-not-has.false, refl, refl)
+loop-w-init c = (sym c.has.ensures ∙ c.if-not-has.false, refl)
 
 pub last_neighbour-requires : goal.last_neighbour-requires
 last_neighbour-requires c = c.loop-w.invariant.0
@@ -24,7 +24,6 @@ loop-w-preserved c =
     let done = unlinked c in (
       ap (λ net. present net c.args.v) done.1 ∙ c.loop-w.invariant.0,
       ap (λ net. without_node net c.args.v) done.1 ∙ without_edge_at c.loop-w.self.network c.args.v c.in-Some.w ∙ c.loop-w.invariant.1,
-      c.unlink.ensures.ends ∙ c.loop-w.invariant.2,
     )
 
 pub part-requires-clause-present : goal.part-requires-clause-present

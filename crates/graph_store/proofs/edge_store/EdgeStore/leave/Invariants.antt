@@ -3,7 +3,7 @@ use Rattle.graph_store.proofs.edge_store.EdgeStore.leave.Given as goal
 
 abbrev pub invariant-loop-w : goal.invariant-loop-w
 invariant-loop-w l =
-    IsTrue (present l.self.network l.v) × (without_node l.self.network l.v ≡ without_node l.initial.self.network l.v) × (l.self.ends ≡ l.initial.self.ends)
+    IsTrue (present l.self.network l.v) × (without_node l.self.network l.v ≡ without_node l.initial.self.network l.v)
 
 abbrev pub decreases-loop-w : goal.decreases-loop-w
 decreases-loop-w l = edge_count l.self.network

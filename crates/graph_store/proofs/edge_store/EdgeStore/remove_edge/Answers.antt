@@ -1,79 +1,52 @@
-use Rattle.graph_store.proofs.Prelude.{◌≡◌, ◌-◌, ◌<◌, length, arith, ap, sym, refl, subst, ◌∙◌, Network, edge, without_edge, edge_count, Graph, open_among, network_of, IsStore, IsPlaceOf, present_range}
-use Rattle.std.specs.FinMap as map
+use Rattle.graph_store.proofs.Prelude.{◌≡◌, ◌-◌, ◌<◌, length, arith, ap, sym, subst, ◌∙◌, without_edge, edge_count, Graph, network_of, IsStore, IsPlaceOf}
 use Rattle.graph_store.proofs.Faults.{are_joined, has_row, known, some_edge}
-use Rattle.graph_store.proofs.OpenEdges.{open_number, open_unlinked}
 use Rattle.graph_store.proofs.Store.{neighbours_by}
 use Rattle.graph_store.proofs.Switch.{unlink_rows}
 use Rattle.graph_store.proofs.edge_store.EdgeStore.remove_edge.Goals as goal
 
 pub find_edge-place_in_b-requires : goal.find_edge-place_in_b-requires
-find_edge-place_in_b-requires c = (are_joined c.self.inside.nodes c.self.inside.here c.self.inside.rows.lists c.args.self.now.network c.args.a c.args.b (ap (λ (g : Graph). g.network) c.self.view_is) c.self.invariant.0.is_rows c.requires).back
+find_edge-place_in_b-requires c = (are_joined c.self.inside.nodes c.self.inside.here c.self.inside.rows.lists c.args.self.now.network c.args.a c.args.b (ap (λ (g : Graph). g.network) c.self.view_is) c.self.invariant.is_rows c.requires).back
 
 pub take_both-requires-clause-apart : goal.take_both-requires-clause-apart
-take_both-requires-clause-apart c = (are_joined c.self.inside.nodes c.self.inside.here c.self.inside.rows.lists c.args.self.now.network c.args.a c.args.b (ap (λ (g : Graph). g.network) c.self.view_is) c.self.invariant.0.is_rows c.requires).apart
+take_both-requires-clause-apart c = (are_joined c.self.inside.nodes c.self.inside.here c.self.inside.rows.lists c.args.self.now.network c.args.a c.args.b (ap (λ (g : Graph). g.network) c.self.view_is) c.self.invariant.is_rows c.requires).apart
 
 pub take_both-requires-clause-a_known : goal.take_both-requires-clause-a_known
 take_both-requires-clause-a_known c =
-    has_row c.self.inside.nodes c.self.inside.here c.self.inside.rows.lists c.args.self.now.network c.args.a (ap (λ (g : Graph). g.network) c.self.view_is) c.self.invariant.0.is_rows (are_joined c.self.inside.nodes c.self.inside.here c.self.inside.rows.lists c.args.self.now.network c.args.a c.args.b (ap (λ (g : Graph). g.network) c.self.view_is) c.self.invariant.0.is_rows c.requires).here
+    has_row c.self.inside.nodes c.self.inside.here c.self.inside.rows.lists c.args.self.now.network c.args.a (ap (λ (g : Graph). g.network) c.self.view_is) c.self.invariant.is_rows (are_joined c.self.inside.nodes c.self.inside.here c.self.inside.rows.lists c.args.self.now.network c.args.a c.args.b (ap (λ (g : Graph). g.network) c.self.view_is) c.self.invariant.is_rows c.requires).here
 
 pub take_both-requires-clause-b_known : goal.take_both-requires-clause-b_known
 take_both-requires-clause-b_known c =
-    has_row c.self.inside.nodes c.self.inside.here c.self.inside.rows.lists c.args.self.now.network c.args.b (ap (λ (g : Graph). g.network) c.self.view_is) c.self.invariant.0.is_rows (are_joined c.self.inside.nodes c.self.inside.here c.self.inside.rows.lists c.args.self.now.network c.args.a c.args.b (ap (λ (g : Graph). g.network) c.self.view_is) c.self.invariant.0.is_rows c.requires).there
+    has_row c.self.inside.nodes c.self.inside.here c.self.inside.rows.lists c.args.self.now.network c.args.b (ap (λ (g : Graph). g.network) c.self.view_is) c.self.invariant.is_rows (are_joined c.self.inside.nodes c.self.inside.here c.self.inside.rows.lists c.args.self.now.network c.args.a c.args.b (ap (λ (g : Graph). g.network) c.self.view_is) c.self.invariant.is_rows c.requires).there
 
 pub take_both-requires-clause-inside_a : goal.take_both-requires-clause-inside_a
 take_both-requires-clause-inside_a c =
-    let row = neighbours_by c.self.inside.nodes c.self.inside.here c.self.inside.rows.lists c.args.self.now.network c.args.a (ap (λ (g : Graph). g.network) c.self.view_is) c.self.invariant.0.is_rows in
+    let row = neighbours_by c.self.inside.nodes c.self.inside.here c.self.inside.rows.lists c.args.self.now.network c.args.a (ap (λ (g : Graph). g.network) c.self.view_is) c.self.invariant.is_rows in
     subst (λ l. c.find_edge-place_in_a.result < length l) (sym row) c.find_edge-place_in_a.ensures.0
 
 pub take_both-requires-clause-inside_b : goal.take_both-requires-clause-inside_b
 take_both-requires-clause-inside_b c =
-    let row = neighbours_by c.self.inside.nodes c.self.inside.here c.self.inside.rows.lists c.args.self.now.network c.args.b (ap (λ (g : Graph). g.network) c.self.view_is) c.self.invariant.0.is_rows in
+    let row = neighbours_by c.self.inside.nodes c.self.inside.here c.self.inside.rows.lists c.args.self.now.network c.args.b (ap (λ (g : Graph). g.network) c.self.view_is) c.self.invariant.is_rows in
     subst (λ l. c.find_edge-place_in_b.result < length l) (sym row) c.find_edge-place_in_b.ensures.0
 
 pub overflow_sub-self : goal.overflow_sub-self
 overflow_sub-self c =
-    let count : edge_count c.args.self.now.network ≡ c.self.inside.edges = ap (λ (g : Graph). edge_count g.network) (sym c.self.view_is) ∙ c.self.invariant.0.counted in
+    let count : edge_count c.args.self.now.network ≡ c.self.inside.edges = ap (λ (g : Graph). edge_count g.network) (sym c.self.view_is) ∙ c.self.invariant.counted in
     omega (arith, count, some_edge c.args.self.now.network c.args.a c.args.b c.requires)
 
-pub are_open-requires-clause-low : goal.are_open-requires-clause-low
-are_open-requires-clause-low c =
-    let bounds = present_range c.args.self.now.network c.args.a (are_joined c.self.inside.nodes c.self.inside.here c.self.inside.rows.lists c.args.self.now.network c.args.a c.args.b (ap (λ (g : Graph). g.network) c.self.view_is) c.self.invariant.0.is_rows c.requires).here in
-    let size = ap (λ (g : Graph). g.network.size) c.self.view_is in
-    omega (arith, bounds.1, size, c.self.invariant.1.places, c.deref.ensures.len)
-
-pub are_open-requires-clause-high : goal.are_open-requires-clause-high
-are_open-requires-clause-high c =
-    let bounds = present_range c.args.self.now.network c.args.b (are_joined c.self.inside.nodes c.self.inside.here c.self.inside.rows.lists c.args.self.now.network c.args.a c.args.b (ap (λ (g : Graph). g.network) c.self.view_is) c.self.invariant.0.is_rows c.requires).there in
-    let size = ap (λ (g : Graph). g.network.size) c.self.view_is in
-    omega (arith, bounds.1, size, c.self.invariant.1.places, c.deref.ensures.len)
-
-pub overflow_sub-self-2 : goal.overflow_sub-self-2
-overflow_sub-self-2 c =
-    let net = c.args.self.now.network in
-    let seen = ap (λ (g : Graph). g.network.edges) c.self.view_is in
-    let less = open_unlinked c.self.inside.ends.items net.edges (map.remove net.edges (edge c.args.a c.args.b)) c.args.a c.args.b c.self.inside.open_edges c.requires refl (ap (open_among c.self.inside.ends.items) (sym seen) ∙ c.self.invariant.1.counted) in
-    let one = open_number c.self.inside.ends.items c.deref.result.now c.args.a c.args.b c.from.result c.are_open.result c.from.ensures c.are_open.ensures c.deref.ensures.value in
-    omega (arith, less, one)
-
 -- the new rows are a store, of the network without the edge
-unlinked_now : (c : goal.After-self-2-1) → IsStore c.self.inside.nodes c.self.inside.here (c.self.inside.edges - 1) c.take_both.new.self.lists × (network_of c.self.inside.nodes c.self.inside.here c.take_both.new.self.lists ≡ without_edge c.args.self.now.network c.args.a c.args.b)
+unlinked_now : (c : goal.After-self-1) → IsStore c.self.inside.nodes c.self.inside.here (c.self.inside.edges - 1) c.take_both.new.self.lists × (network_of c.self.inside.nodes c.self.inside.here c.take_both.new.self.lists ≡ without_edge c.args.self.now.network c.args.a c.args.b)
 unlinked_now c =
     let seen = ap (λ (g : Graph). g.network) c.self.view_is in
-    let both = are_joined c.self.inside.nodes c.self.inside.here c.self.inside.rows.lists c.args.self.now.network c.args.a c.args.b (ap (λ (g : Graph). g.network) c.self.view_is) c.self.invariant.0.is_rows c.requires in
+    let both = are_joined c.self.inside.nodes c.self.inside.here c.self.inside.rows.lists c.args.self.now.network c.args.a c.args.b (ap (λ (g : Graph). g.network) c.self.view_is) c.self.invariant.is_rows c.requires in
     let rows = c.self.inside.rows.lists in
-    let row_a = neighbours_by c.self.inside.nodes c.self.inside.here rows c.args.self.now.network c.args.a seen c.self.invariant.0.is_rows in
-    let row_b = neighbours_by c.self.inside.nodes c.self.inside.here rows c.args.self.now.network c.args.b seen c.self.invariant.0.is_rows in
+    let row_a = neighbours_by c.self.inside.nodes c.self.inside.here rows c.args.self.now.network c.args.a seen c.self.invariant.is_rows in
+    let row_b = neighbours_by c.self.inside.nodes c.self.inside.here rows c.args.self.now.network c.args.b seen c.self.invariant.is_rows in
     let is = c.take_both.ensures in
-    let new = unlink_rows c.self.inside.nodes c.self.inside.here c.self.inside.edges c.args.a c.args.b c.find_edge-place_in_a.result c.find_edge-place_in_b.result rows _ c.self.invariant.0 both.apart (known c.self.inside.nodes c.self.inside.here rows c.args.self.now.network c.args.a seen both.here) (known c.self.inside.nodes c.self.inside.here rows c.args.self.now.network c.args.b seen both.there) (subst (λ l. IsPlaceOf l c.args.b c.find_edge-place_in_a.result) (sym row_a) c.find_edge-place_in_a.ensures) (subst (λ l. IsPlaceOf l c.args.a c.find_edge-place_in_b.result) (sym row_b) c.find_edge-place_in_b.ensures) is in
+    let new = unlink_rows c.self.inside.nodes c.self.inside.here c.self.inside.edges c.args.a c.args.b c.find_edge-place_in_a.result c.find_edge-place_in_b.result rows _ c.self.invariant both.apart (known c.self.inside.nodes c.self.inside.here rows c.args.self.now.network c.args.a seen both.here) (known c.self.inside.nodes c.self.inside.here rows c.args.self.now.network c.args.b seen both.there) (subst (λ l. IsPlaceOf l c.args.b c.find_edge-place_in_a.result) (sym row_a) c.find_edge-place_in_a.ensures) (subst (λ l. IsPlaceOf l c.args.a c.find_edge-place_in_b.result) (sym row_b) c.find_edge-place_in_b.ensures) is in
     (new.0, new.1 ∙ ap (λ net. without_edge net c.args.a c.args.b) seen)
 
 pub invariant_of-self : goal.invariant_of-self
-invariant_of-self c =
-    let net = c.args.self.now.network in
-    let seen = ap (λ (g : Graph). g.network.edges) c.self.view_is in
-    let less = open_unlinked c.self.inside.ends.items net.edges _ c.args.a c.args.b c.self.inside.open_edges c.requires (ap (λ (n : Network). n.edges) (unlinked_now c).1) (ap (open_among c.self.inside.ends.items) (sym seen) ∙ c.self.invariant.1.counted) in
-    let one = open_number c.self.inside.ends.items c.deref.result.now c.args.a c.args.b c.from.result c.are_open.result c.from.ensures c.are_open.ensures c.deref.ensures.value in
-    ((unlinked_now c).0, record { places = c.self.invariant.1.places; counted = omega (arith, less, one); shut = c.self.invariant.1.shut })
+invariant_of-self c = (unlinked_now c).0
 
-pub returns-clause-network : goal.returns-clause-network
-returns-clause-network c = (unlinked_now c).1
+pub returns : goal.returns
+returns c = record { network = (unlinked_now c).1 }

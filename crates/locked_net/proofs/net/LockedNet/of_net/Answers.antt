@@ -9,7 +9,7 @@ use Rattle.locked_net.proofs.net.LockedNet.of_net.Goals as goal
 pub share-requires-clause-whole : goal.share-requires-clause-whole
 share-requires-clause-whole g c =
     let there : Moment = record { state = c.args.net.state; spent = c.args.net.spent } in
-    let budget = subst (λ (n : NetView). IsWithinBudget g.R.Rules.table g.R.Rules.NODE_WEIGHT (record { state = n.state; spent = n.spent })) c.net.view_is c.net.invariant.budget in
+    let budget = subst (λ (n : NetView). IsWithinBudget g.R.Rules.table g.R.Rules.NODE_WEIGHT (record { state = n.state; spent = n.spent })) c.net.view_is c.net.invariant.0.budget in
     let good = budget.is_state in
     let names = c.capacity.ensures.size ∙ ap (λ (n : Network). n.size) c.store-2.ensures.network in
     let small : there.state.network.size ≤ 65535 = omega (arith, names, c.capacity.ensures.few) in

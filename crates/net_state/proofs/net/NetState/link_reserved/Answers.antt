@@ -16,5 +16,4 @@ returns-clause-changed c = record {
   is_state = invariant_of-self c;
   due = c.requires.free;
   made = ap (λ n. state_of n c.self.inside.registers) c.link_reserved.ensures.network ∙ ap (λ (h : StateView). after_link h.state c.args.a c.args.b) c.self.view_is;
-  ends = c.link_reserved.ensures.ends ∙ ap (λ (h : StateView). h.ends) c.self.view_is;
 }

@@ -19,5 +19,4 @@ returns-clause-changed c =
       is_state = invariant_of-self c;
       due = (c.requires.linked, (c.requires.not_there, c.requires.not_back));
       made = ap (λ n. state_of n r) c.remove_edge.ensures.network ∙ ap (λ (h : StateView). state_of (without_edge h.state.network c.args.a c.args.b) h.state.registers) c.self.view_is;
-      ends = c.remove_edge.ensures.ends ∙ ap (λ (h : StateView). h.ends) c.self.view_is;
     }

@@ -17,5 +17,4 @@ returns-clause-changed c =
       is_state = invariant_of-self c;
       due = (c.requires.present, (c.requires.alone, c.requires.unflagged));
       made = ap (λ n. state_of n r) c.part.ensures.place ∙ ap (λ (h : StateView). without_place h.state c.args.v) c.self.view_is;
-      ends = c.part.ensures.ends ∙ ap (λ (h : StateView). h.ends) c.self.view_is;
     }

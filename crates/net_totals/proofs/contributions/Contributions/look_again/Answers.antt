@@ -1,4 +1,4 @@
-use Rattle.net_totals.proofs.Prelude.{◌∙◌, ◌≤◌, subst, sym, arith, one_fewer, inside, StateView, State, IsState, IsIndexed, AreExactUnlessStale}
+use Rattle.net_totals.proofs.Prelude.{◌∙◌, ◌≤◌, ◌≢◌, ℕ, ap, subst, arith, one_fewer, inside, StateView, State, OpenEdges, end_at}
 use Rattle.net_totals.proofs.StoredContributions.{IsLook, told_next}
 use Rattle.net_totals.proofs.contributions.Contributions.look_again.Goals as goal
 
@@ -10,18 +10,16 @@ loop-v-preserved g c =
     let close = g.R.Rules.COURTED_PAIR_CLOSES_EDGE in
     let it = c.loop-v.self in
     let kept = c.loop-v.invariant in
-    let s : State = c.loop-v.net.state in
+    let s : State = c.args.net.now.state in
     let now = c.put.new.self in
     let v = c.in-Some.v in
-    let look = subst (λ (h : StateView). IsLook close g.R.Rules.closes g.R.Rules.adds h.state v c.contribution_of-contribution.result c.is_lower_end-is_lower_end.result c.end_at-end.result) c.new-index.ensures
-    record { added = c.contribution_of-contribution.ensures.added; closing = c.contribution_of-contribution.ensures.closing; lower = c.is_lower_end-is_lower_end.ensures; end = c.end_at-end.ensures } in
+    let look = subst (λ (h : StateView). IsLook close g.R.Rules.closes g.R.Rules.adds h.state v c.contribution_of-contribution.result c.is_lower_end-is_lower_end.result c.stance_at-stance.result) c.new-index.ensures
+    record { added = c.contribution_of-contribution.ensures.added; closing = c.contribution_of-contribution.ensures.closing; lower = c.is_lower_end-is_lower_end.ensures; end = c.stance_at-stance.ensures } in
     let there = inside it.stale v c.in-Some.ensures.some in
-    let within : v ≤ s.network.size = omega (arith, there, kept.told.1.stale_places) in
-    let told = told_next close g.R.Rules.closes g.R.Rules.adds s c.loop-v.net.ends c.set_stance.new.net.ends it.each.items now.each.items it.lower_ends now.lower_ends it.stale now.stale v _ _ _ within c.put.ensures.each c.put.ensures.lower (c.put.ensures.stale ∙ c.in-Some.ensures.taken) look c.set_stance.ensures.told c.set_stance.ensures.others kept.told.1 in
-    let same = sym c.set_stance.ensures.state in
+    let within : v ≤ s.network.size = omega (arith, there, kept.exact.stale_places) in
+    let others = λ (w : ℕ) (apart : w ≢ v). c.set_stance.ensures.others w apart ∙ ap (λ (o : OpenEdges). end_at o.stances.items w) c.put.ensures.open in
     record {
-      index = subst (λ (t : State). IsIndexed g.R.Rules.COURTS_HIGHER_ONLY g.R.Rules.table.opens t c.args.suitors.now.tallies.items) same kept.index;
-      told = subst (λ (t : State). IsState t × AreExactUnlessStale close g.R.Rules.closes g.R.Rules.adds t c.set_stance.new.net.ends now.each.items now.lower_ends now.stale) same (kept.told.0, told);
-      state = c.set_stance.ensures.state ∙ kept.state;
-      room = c.set_stance.ensures.room ∙ kept.room;
+      sound = kept.sound;
+      exact = told_next close g.R.Rules.closes g.R.Rules.adds s it.open_edges.stances.items c.set_stance.new.self.stances.items it.each.items now.each.items it.lower_ends now.lower_ends it.stale now.stale v _ _ _ within c.put.ensures.each c.put.ensures.lower (c.put.ensures.stale ∙ c.in-Some.ensures.taken) look c.set_stance.ensures.told others kept.exact;
+      counted = c.set_stance.ensures.counts;
     }

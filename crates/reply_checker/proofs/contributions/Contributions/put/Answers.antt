@@ -18,7 +18,7 @@ overflow_add-self-2 c =
     let was = c.index.result.now in
     let at : was ≡ get_or it.each.items c.args.v was = c.index.ensures ∙ ap (λ p. get_or it.each.items p was) c.place.ensures.same in
     let f : Contribution → ℕ = λ x. cond (is_some x.rule) 1 0 in
-    let fits = sum_fits f 3 it.each.items c.args.v was c.args.share it.enabled c.from-3.result c.from-4.result it.few (λ k d within. few_tests (is_some (get_or it.each.items k d).rule)) (few_tests (is_some c.args.share.rule)) c.requires.share it.summed.ruled at (c.from-3.ensures ∙ one_byte c.is_enabled.result ∙ ap (λ b. cond {A = ℕ} b 1 0) c.is_enabled.ensures) (c.from-4.ensures ∙ one_byte c.is_enabled-2.result ∙ ap (λ b. cond {A = ℕ} b 1 0) c.is_enabled-2.ensures) in
+    let fits = sum_fits f 3 it.each.items c.args.v was c.args.share it.enabled c.from-3.result c.from-4.result it.few (λ k d within. few_tests (is_some (get_or it.each.items k d).rule)) (few_tests (is_some c.args.share.rule)) c.requires.share it.summed.ruled at (c.from-3.ensures ∙ one_byte c.is_some.result ∙ ap (λ b. cond {A = ℕ} b 1 0) c.is_some.ensures) (c.from-4.ensures ∙ one_byte c.is_some-2.result ∙ ap (λ b. cond {A = ℕ} b 1 0) c.is_some-2.ensures) in
     omega (arith, fits)
 
 pub overflow_add-self-3 : goal.overflow_add-self-3
@@ -52,7 +52,7 @@ invariant_of-self c =
     let closing = it.closing - c.from-7.result + c.from-8.result in
     let summed : AreStatusSums (set it.each.items v share) pairs enabled added closing = record {
       paired = sum_put (λ (x : Contribution). cond x.is_lower_end 1 0) it.each.items v was share it.pairs c.from.result c.from-2.result c.requires.share it.summed.paired at (c.from.ensures ∙ one_byte was.is_lower_end) (c.from-2.ensures ∙ one_byte share.is_lower_end);
-      ruled = sum_put (λ (x : Contribution). cond (is_some x.rule) 1 0) it.each.items v was share it.enabled c.from-3.result c.from-4.result c.requires.share it.summed.ruled at (c.from-3.ensures ∙ one_byte c.is_enabled.result ∙ ap (λ b. cond {A = ℕ} b 1 0) c.is_enabled.ensures) (c.from-4.ensures ∙ one_byte c.is_enabled-2.result ∙ ap (λ b. cond {A = ℕ} b 1 0) c.is_enabled-2.ensures);
+      ruled = sum_put (λ (x : Contribution). cond (is_some x.rule) 1 0) it.each.items v was share it.enabled c.from-3.result c.from-4.result c.requires.share it.summed.ruled at (c.from-3.ensures ∙ one_byte c.is_some.result ∙ ap (λ b. cond {A = ℕ} b 1 0) c.is_some.ensures) (c.from-4.ensures ∙ one_byte c.is_some-2.result ∙ ap (λ b. cond {A = ℕ} b 1 0) c.is_some-2.ensures);
       in_all = sum_put (λ (x : Contribution). x.added) it.each.items v was share it.added c.from-5.result c.from-6.result c.requires.share it.summed.in_all at c.from-5.ensures c.from-6.ensures;
       closed = sum_put (λ (x : Contribution). cond x.closes 1 0) it.each.items v was share it.closing c.from-7.result c.from-8.result c.requires.share it.summed.closed at (c.from-7.ensures ∙ one_byte was.closes) (c.from-8.ensures ∙ one_byte share.closes);
     } in

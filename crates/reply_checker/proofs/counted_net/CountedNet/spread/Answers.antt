@@ -9,5 +9,5 @@ pub invariant_of-self-in-Some-2 : goal.invariant_of-self-in-Some-2
 invariant_of-self-in-Some-2 c =
     let it = c.loop-v.self in
     record {
-      told = told_spread it.shares.rules it.net.state it.net.ends it.shares.each.items it.shares.touched c.take.new.self it.shares.due c.mark_around.new.due c.in-Some.v c.in-Some.ensures.taken c.mark_around.ensures it.told;
+      told = told_spread it.shares.rules it.net.state it.shares.open_edges it.shares.each.items it.shares.touched c.take.new.self it.shares.due c.mark_around.new.due c.in-Some.v c.in-Some.ensures.taken c.mark_around.ensures it.told;
     }

@@ -1,4 +1,4 @@
-use Rattle.rule_engine.proofs.Prelude.{◌∙◌, sym, ap, subst, arith, State, IsWithinBudget, moment, charge_bound, few_names}
+use Rattle.rule_engine.proofs.Prelude.{◌∙◌, sym, ap, subst, arith, State, Moment, charge_bound, few_names}
 use Rattle.std.specs.List.{list_any}
 use Rattle.rule_machine.specs.Base.{IsBaseMoment}
 use Rattle.rule_machine.specs.declared.base.Base.{Base}
@@ -16,31 +16,31 @@ returns-then-not-is_within-clause-fault g c =
     let t = g.R.Rules.table in
     let weight = g.R.Rules.NODE_WEIGHT in
     let base : Base = c.args.base.now in
-    let s : State = c.in_ok-engine.engine.state in
-    let of_base : IsStateOf c.args.size base s = subst (IsStateOf c.args.size base) (sym c.in_ok-engine.ensures) c.in_ok-state.ensures.state in
+    let s : State = c.in_ok-state.state.state in
+    let of_base : IsStateOf c.args.size base s = c.in_ok-state.ensures.state in
     let fit = fit_flags t c.args.size base c.as_slice.result.now s c.has_unused_flag.result c.as_slice.ensures c.has_unused_flag.ensures c.if-has_unused_flag.false of_base in
     (s, of_base, fit, too_much base.spent (t.charge s) (charge_bound weight s.network) (sym c.is_within.ensures.within ∙ c.if-not-is_within.true))
 
-pub invariant_of-result : goal.invariant_of-result
-invariant_of-result g c =
+pub with_derived-requires-clause-budget : goal.with_derived-requires-clause-budget
+with_derived-requires-clause-budget g c =
     let t = g.R.Rules.table in
     let weight = g.R.Rules.NODE_WEIGHT in
     let base : Base = c.args.base.now in
-    let s : State = c.in_ok-engine.engine.state in
-    let of_base : IsStateOf c.args.size base s = subst (IsStateOf c.args.size base) (sym c.in_ok-engine.ensures) c.in_ok-state.ensures.state in
+    let s : State = c.in_ok-state.state.state in
+    let of_base : IsStateOf c.args.size base s = c.in_ok-state.ensures.state in
     let fit = fit_flags t c.args.size base c.as_slice.result.now s c.has_unused_flag.result c.as_slice.ensures c.has_unused_flag.ensures c.if-has_unused_flag.false of_base in
     let begun = begins t weight c.args.size base s of_base fit (sym c.is_within.ensures.within ∙ c.if-not-is_within.false) in
-    record { budget = subst (λ (u : State). IsWithinBudget t weight (moment u base.spent)) (sym c.is_within.ensures.kept) (record { is_state = begun.is_state; within = begun.within; unflagged = begun.unflagged }); counts = tt }
+    record { is_state = begun.is_state; within = begun.within; unflagged = begun.unflagged }
 
 pub returns-clause-ok : goal.returns-clause-ok
 returns-clause-ok g c =
     let t = g.R.Rules.table in
     let weight = g.R.Rules.NODE_WEIGHT in
     let base : Base = c.args.base.now in
-    let s : State = c.in_ok-engine.engine.state in
-    let of_base : IsStateOf c.args.size base s = subst (IsStateOf c.args.size base) (sym c.in_ok-engine.ensures) c.in_ok-state.ensures.state in
+    let s : State = c.in_ok-state.state.state in
+    let of_base : IsStateOf c.args.size base s = c.in_ok-state.ensures.state in
     let fit = fit_flags t c.args.size base c.as_slice.result.now s c.has_unused_flag.result c.as_slice.ensures c.has_unused_flag.ensures c.if-has_unused_flag.false of_base in
-    subst (λ (u : State). IsBaseMoment t (charge_bound weight) c.args.size base (record { state = u; spent = base.spent })) (sym c.is_within.ensures.kept)
+    subst (λ (m : Moment). IsBaseMoment t (charge_bound weight) c.args.size base m) (sym c.in_ok-net.ensures.moment)
     (begins t weight c.args.size base s of_base fit (sym c.is_within.ensures.within ∙ c.if-not-is_within.false))
 
 pub returns-clause-few : goal.returns-clause-few

@@ -6,22 +6,22 @@ pub returns-in-Some-clause-count : goal.returns-in-Some-clause-count
 returns-in-Some-clause-count g c =
     let t = g.R.Rules.table in
     ap (λ (n : ℕ). Some n) c.rounds.ensures
-    ∙ sym (ap (λ (o : Option RoundCounter). rounds_of (counting_in t c.self.inside.engine.state o)) c.in-Some.is)
+    ∙ sym (ap (λ (o : Option RoundCounter). rounds_of (counting_in t c.self.inside.net.state o)) c.in-Some.is)
     ∙ ap (λ (n : NetView). rounds_of n.counting) c.self.view_is
 
 pub returns-in-Some-clause-exact : goal.returns-in-Some-clause-exact
 returns-in-Some-clause-exact g c start log calm is =
     let t = g.R.Rules.table in
     let told = ap (λ (n : ℕ). Some n) c.rounds.ensures
-    ∙ sym (ap (λ (o : Option RoundCounter). rounds_of (counting_in t c.self.inside.engine.state o)) c.in-Some.is)
+    ∙ sym (ap (λ (o : Option RoundCounter). rounds_of (counting_in t c.self.inside.net.state o)) c.in-Some.is)
     ∙ ap (λ (n : NetView). rounds_of n.counting) c.self.view_is in
     exact_rounds t start log _ _ told calm is
 
 pub returns-in-Some-clause-some : goal.returns-in-Some-clause-some
 returns-in-Some-clause-some g c =
     let t = g.R.Rules.table in
-    let m : Moment = moment c.self.inside.engine.state c.self.inside.spent in
-    let counts : CountsRun t m c.in-Some.counter = subst (λ (o : Option RoundCounter). CountsRounds t m o) c.in-Some.is c.self.invariant.counts in
+    let m : Moment = moment c.self.inside.net.state c.self.inside.spent in
+    let counts : CountsRun t m c.in-Some.counter = subst (λ (o : Option RoundCounter). CountsRounds t m o) c.in-Some.is c.self.invariant.0.counts in
     subst (λ (n : NetView). IfSome n.counting (λ count. HasRounds t (net_moment n) count)) c.self.view_is
     (subst (λ (o : Option RoundCounter). IfSome (counting_in t m.state o) (λ count. HasRounds t m count)) (sym c.in-Some.is) (record {
       start = counts.start;

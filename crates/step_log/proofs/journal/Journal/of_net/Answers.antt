@@ -21,7 +21,7 @@ invariant_of-result g c =
     let small : there.state.network.size ≤ 65535 = omega (arith, names, c.capacity.ensures.few) in
     let made = c.in_ok-base.ensures.base in
     let short : IsBaseOfGraph (Some (base_of number there)) = subst (λ (b : Base). IsBaseOfGraph (Some b)) made c.in_ok-base.ensures.few in
-    let budget = subst (λ (n : NetView). IsWithinBudget t weight (record { state = n.state; spent = n.spent })) c.net.view_is c.net.invariant.budget in
+    let budget = subst (λ (n : NetView). IsWithinBudget t weight (record { state = n.state; spent = n.spent })) c.net.view_is c.net.invariant.0.budget in
     let over = c.new-2.result.over.items in
     let begun = resumed_is_journal t weight number limit present there budget small short room most over c.new-2.ensures.over in
     counted_before t weight _ _ _ _ c.new.ensures.items c.new-2.ensures.over (subst (BeginsAfter c.in_ok-base.base.number []) (sym c.new-2.ensures.begun) refl)

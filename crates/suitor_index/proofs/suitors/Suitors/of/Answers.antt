@@ -11,7 +11,7 @@ pub loop-below-init : goal.loop-below-init
 loop-below-init g c =
     let s : State = c.args.net.now.state in
     let size = c.capacity.ensures.size in
-    let first : IsIndexed g.R.Rules.COURTS_HIGHER_ONLY g.R.Rules.table.opens (opening_with c.capacity.result 0) c.in_ok-suitors.suitors.tallies.items = c.in_ok-suitors.ensures (record { state = opening_with c.capacity.result 0; room = []; ends = [] }) 0 refl in
+    let first : IsIndexed g.R.Rules.COURTS_HIGHER_ONLY g.R.Rules.table.opens (opening_with c.capacity.result 0) c.in_ok-suitors.suitors.tallies.items = c.in_ok-suitors.ensures (record { state = opening_with c.capacity.result 0; room = [] }) 0 refl in
     record {
       places = first.index.places ∙ ap (λ n. n + 1) size;
       counted = λ v low has. absurd (let range = present_range s.network v has in omega (arith, range.0, low));

@@ -1,5 +1,0 @@
-use Rattle.containment_laws.proofs.Proved as proved
-use Rattle.containment_laws.proofs.law.movers_were_reached.Goals as goal
-
-pub returns : goal.returns
-returns c t table asks = proved.movers_were_reached t (proved.contains_from t table asks)

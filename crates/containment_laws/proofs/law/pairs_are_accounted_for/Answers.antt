@@ -1,5 +1,0 @@
-use Rattle.containment_laws.proofs.Proved as proved
-use Rattle.containment_laws.proofs.law.pairs_are_accounted_for.Goals as goal
-
-pub returns : goal.returns
-returns c t table asks = proved.pairs_are_accounted_for t (proved.contains_from t table asks)
