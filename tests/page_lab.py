@@ -516,10 +516,10 @@ def keys(pages: Pages, browser: Browser) -> None:
 
 
 def many(pages: Pages, browser: Browser) -> None:
-    """500 nodes run at 30 pictures a second at least, in the best of three tries. If other programs keep
-    the processors busy that is skipped; so are results above half of it, as slower machines draw fewer."""
-    best, shown = 0, 0
-    for seed in (1, 2, 3):
+    """500 running nodes are drawn at least 30 times a second, or half as often as the browser repaints the
+    still drawing with a few changes: a slow or busy machine paints less. The best of up to six tries counts."""
+    best = (0.0, 0.0, 0.0)
+    for seed in range(1, 7):
         begin(browser)
         for field, value in [("pace", "100"), ("seed", str(seed)), ("preset", "disk"), ("size", "500")]:
             browser.ask("choose", f"#{field}", value)
@@ -527,16 +527,15 @@ def many(pages: Pages, browser: Browser) -> None:
         # the first pictures lay out and compile
         time.sleep(1)
         frames, moved = browser.ask("frames")
-        if frames > best:
-            best, shown = frames, moved
-    load = os.getloadavg()[0] / len(os.sched_getaffinity(0))
-    print(f"500 nodes: {best:.0f} pictures a second, {shown:.0f} of which show moves")
-    if best < 30 and load > 1:
-        pages.skip("30 pictures a second with 500 nodes", f"{load:.1f} programs want each processor")
-    elif 15 <= best < 30:
-        pages.skip("30 pictures a second with 500 nodes", "this machine is too slow to tell")
-    else:
-        pages.expect("30 pictures a second with 500 nodes", (best >= 30, shown >= 30), (True, True))
+        browser.click(*place(browser, "#run"))
+        pages.expect("the run of 500 nodes stops", waited(browser, False, "isRunning"), False)
+        wanted = min(30, browser.ask("repaints") / 2)
+        best = max(best, (moved / wanted, moved, wanted))
+        print(f"500 nodes: {frames:.0f} pictures a second, {moved:.0f} of which show moves; {wanted:.0f} are wanted")
+        if best[0] >= 1:
+            break
+    _, moved, wanted = best
+    pages.expect(f"{wanted:.0f} pictures a second with 500 nodes, by {moved:.1f}", moved >= wanted, True)
     pages.expect("complaints of 500 nodes", browser.complaints, [])
 
 

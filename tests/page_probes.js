@@ -332,6 +332,38 @@ const probes = (() => {
       requestAnimationFrame(look);
     }),
 
+    /**
+     * How many pictures a second the browser makes of a copy of the drawing, over the page, in which twenty nodes
+     * change each time.
+     */
+    repaints: () => new Promise((done) => {
+      const box = one(".graph").getBoundingClientRect();
+      const copy = one(".graph").cloneNode(true);
+      const place = { left: box.left, top: box.top, width: box.width, height: box.height };
+      for (const [key, value] of Object.entries(place)) {
+        copy.style[key] = `${value}px`;
+      }
+      Object.assign(copy.style, { position: "fixed", margin: "0", background: "white" });
+      document.body.append(copy);
+      const bodies = [...copy.querySelectorAll(".body")];
+      const begun = performance.now();
+      let frames = 0;
+      const paint = () => {
+        for (let at = 0; at < 20; at += 1) {
+          bodies[(37 * (frames + 25 * at)) % bodies.length].style.fill = `hsl(${60 * frames} 50% 50%)`;
+        }
+        frames += 1;
+        const spent = performance.now() - begun;
+        if (spent < 2000) {
+          requestAnimationFrame(paint);
+        } else {
+          copy.remove();
+          done((1000 * frames) / spent);
+        }
+      };
+      requestAnimationFrame(paint);
+    }),
+
     /** Types a text in place of the script. */
     write: (text) => {
       one("#show-script").click();
