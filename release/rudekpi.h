@@ -317,8 +317,9 @@ uint32_t rudekpi_moves_left(struct rudekpi_slot *slot, uint32_t *moves);
 
 /* Counts rounds from here on, or from here anew. A round is the shortest part of a run after which each node
  * that was enabled at its start has moved, or was not enabled in some state since. From then on a step costs
- * a look or two more at each neighbour of a mover, and a round a few looks at each node enabled at its start.
- * Takes some nine kilobytes. A resumed session counts no rounds before this call; renumbering changes no count.
+ * a look or two more at each mover and at each node that it disables. A round's first step also copies the set
+ * of enabled nodes, 64 names at a time. Takes some nine kilobytes. A resumed session counts no rounds before
+ * this call; renumbering changes no count.
  * DONE; NO_MEMORY: nothing changed; NO_SESSION. */
 uint32_t rudekpi_count_rounds(struct rudekpi_slot *slot);
 

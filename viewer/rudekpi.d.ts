@@ -196,8 +196,9 @@ export declare class Network {
   /**
    * Counts rounds from here on, or from here anew. A round is the shortest part of a run after which each node
    * that was enabled at its start has moved, or was not enabled in some state since. Throws `MemoryError` if
-   * memory runs out; then nothing has changed. From then on a step costs a look or two more at each neighbour of
-   * a node that moves. A network that goes on from a transcript counts no rounds before this call.
+   * memory runs out; then nothing has changed. From then on a step costs a look or two more at each node that
+   * moves and at each that it disables. A network that goes on from a transcript counts no rounds before this
+   * call.
    */
   countRounds(): void;
   /**

@@ -20,40 +20,42 @@ DONE = 0
 Command = Callable[[str, Callable[[argparse.Namespace], int], str], argparse.ArgumentParser]
 
 
-def run_again(given: argparse.Namespace) -> int:
-    with open(given.rows, "rb") as file:
+def run_again(arguments: argparse.Namespace) -> int:
+    with open(arguments.rows, "rb") as file:
         found = row_in(
-            lines_of_file(file), given.rows, number_within(given.number, MOST_EXPERIMENTS, "the number of a row")
+            lines_of_file(file),
+            arguments.rows,
+            number_within(arguments.number, MOST_EXPERIMENTS, "the number of a row"),
         )
     title = found.row.graph
-    reads = [given.rows, title if is_path(title) else None, path_of(given.rows, title), given.program]
+    reads = [arguments.rows, title if is_path(title) else None, path_of(arguments.rows, title), arguments.program]
     reads.append(file_in(found.row.disturbance))
-    outputs.refuse_clashes([given.output, outputs.names_file(given.output), given.page], reads)
-    graph = graph_in(given, title)
+    outputs.refuse_clashes([arguments.output, outputs.names_file(arguments.output), arguments.page], reads)
+    graph = graph_in(arguments, title)
     try:
-        played = play_again(found.row, program=given.program, graph=graph)
+        played = play_again(found.row, program=arguments.program, graph=graph)
     except ValueError as error:
-        raise ValueError(f"{given.rows}: line {found.line}: {error}") from None
+        raise ValueError(f"{arguments.rows}: line {found.line}: {error}") from None
     has_numbers = played.nodes == tuple(range(1, len(played.nodes) + 1))
-    if given.page is not None:
+    if arguments.page is not None:
         names = None if has_numbers else names_for(played.transcript, played.nodes)
-        drawings.write_page(played.transcript, given.page, given.program, names)
-    outputs.write(given.output, played.transcript)
-    if outputs.is_file(given.output) and not has_numbers:
-        write_names(f"{given.output}.names", played.nodes)
+        drawings.write_page(played.transcript, arguments.page, arguments.program, names)
+    outputs.write(arguments.output, played.transcript)
+    if outputs.is_file(arguments.output) and not has_numbers:
+        write_names(f"{arguments.output}.names", played.nodes)
     return DONE
 
 
-def graph_in(given: argparse.Namespace, title: str) -> Optional[Graph]:
+def graph_in(arguments: argparse.Namespace, title: str) -> Optional[Graph]:
     """The graph of a row: kept next to the rows, made again by its word, or read again from its file.
 
     None if it is that of a trace, which is read later.
     """
     try:
-        kept = kept_graph(given.rows, title)
-        return kept if kept or title.startswith("trace ") else graph_of(title, undirected=given.undirected)
+        kept = kept_graph(arguments.rows, title)
+        return kept if kept or title.startswith("trace ") else graph_of(title, undirected=arguments.undirected)
     except FileNotFoundError as error:
-        raise FileNotFoundError(f"{error}; and {folder_of(given.rows)} keeps no graph of this title") from None
+        raise FileNotFoundError(f"{error}; and {folder_of(arguments.rows)} keeps no graph of this title") from None
 
 
 def add_commands(command: Command) -> None:

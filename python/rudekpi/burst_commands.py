@@ -16,15 +16,20 @@ DONE, FAILED = 0, 1
 Command = Callable[[str, Callable[[argparse.Namespace], int], str], argparse.ArgumentParser]
 
 
-def run_bursts(given: argparse.Namespace) -> int:
-    outputs.refuse_clashes([], [given.transcript, given.names])
+def run_bursts(arguments: argparse.Namespace) -> int:
+    outputs.refuse_clashes([], [arguments.transcript, arguments.names])
     try:
-        found = bursts(read(given.transcript), names=names_given(given), program=given.program, partners=given.partners)
+        found = bursts(
+            read(arguments.transcript),
+            names=names_given(arguments),
+            program=arguments.program,
+            partners=arguments.partners,
+        )
     except Damaged as damaged:
         print(damaged, file=sys.stderr)
         return FAILED
-    has_nodes = not given.no_nodes
-    print(head_of(has_nodes, given.partners))
+    has_nodes = not arguments.no_nodes
+    print(head_of(has_nodes, arguments.partners))
     csv.writer(sys.stdout, lineterminator="\n").writerows(row_of(burst, has_nodes) for burst in found)
     return DONE
 

@@ -110,15 +110,15 @@ def words_of_graph(parser: argparse.ArgumentParser) -> None:
     parser.set_defaults(parser=parser)
 
 
-def read_graphs(given: argparse.Namespace) -> None:
+def read_graphs(arguments: argparse.Namespace) -> None:
     """Turns the words of --graph into graphs, once the whole command line is read."""
-    if given.graph is None:
-        if given.plan is None and given.trace is None:
-            given.parser.error("the following arguments are required: --graph, --trace, or a plan")
+    if arguments.graph is None:
+        if arguments.plan is None and arguments.trace is None:
+            arguments.parser.error("the following arguments are required: --graph, --trace, or a plan")
         return
-    words = given.graph if isinstance(given.graph, list) else [given.graph]
-    made = [graph_given(given.parser, text, given.undirected) for text in words]
-    given.graph = made if isinstance(given.graph, list) else made[0]
+    words = arguments.graph if isinstance(arguments.graph, list) else [arguments.graph]
+    made = [graph_given(arguments.parser, text, arguments.undirected) for text in words]
+    arguments.graph = made if isinstance(arguments.graph, list) else made[0]
 
 
 def words_of_sweep(parser: argparse.ArgumentParser, rules: str) -> None:
@@ -210,13 +210,21 @@ def length(text: str) -> float:
     return found
 
 
-def disturbances_of(given: argparse.Namespace) -> list[Disturbance]:
-    counts = (given.joins, given.leaves, given.cut, given.add, given.rewire, given.move, given.every)
-    trace = read_trace(given.trace) if given.trace is not None else None
-    racks = read_racks(given.racks) if given.racks is not None else None
+def disturbances_of(arguments: argparse.Namespace) -> list[Disturbance]:
+    counts = (
+        arguments.joins,
+        arguments.leaves,
+        arguments.cut,
+        arguments.add,
+        arguments.rewire,
+        arguments.move,
+        arguments.every,
+    )
+    trace = read_trace(arguments.trace) if arguments.trace is not None else None
+    racks = read_racks(arguments.racks) if arguments.racks is not None else None
     return [
-        Disturbance(count, given.registers, *counts, given.any_value, trace=trace, racks=racks)
-        for count in given.faults
+        Disturbance(count, arguments.registers, *counts, arguments.any_value, trace=trace, racks=racks)
+        for count in arguments.faults
     ]
 
 
@@ -232,37 +240,37 @@ def reach(address: str) -> None:
 
 
 @contextlib.contextmanager
-def executor_of(given: argparse.Namespace) -> Iterator[Optional[Executor]]:
-    if given.dask:
+def executor_of(arguments: argparse.Namespace) -> Iterator[Optional[Executor]]:
+    if arguments.dask:
         try:
             import distributed
         except ImportError:
             raise ImportError("--dask wants distributed, which is not there") from None
-        reach(given.dask)
+        reach(arguments.dask)
         client_of: Any = distributed.Client
-        with client_of(given.dask) as client:
+        with client_of(arguments.dask) as client:
             yield client.get_executor()
     else:
         yield None
 
 
-def words_to_play(given: argparse.Namespace) -> Words:
-    if given.plan is None:
-        seeds, hits = range(given.first_seed, given.first_seed + given.seeds), disturbances_of(given)
-        graphs = [hits[0].trace.start()] if given.graph is None and hits[0].trace else given.graph
-        return graphs, given.rules, given.daemon, seeds, hits
-    refuse_beside(given, IN_PLAN, "stands in the plan, and not beside it")
-    plan = read_plan(given.plan)
+def words_to_play(arguments: argparse.Namespace) -> Words:
+    if arguments.plan is None:
+        seeds, hits = range(arguments.first_seed, arguments.first_seed + arguments.seeds), disturbances_of(arguments)
+        graphs = [hits[0].trace.start()] if arguments.graph is None and hits[0].trace else arguments.graph
+        return graphs, arguments.rules, arguments.daemon, seeds, hits
+    refuse_beside(arguments, IN_PLAN, "stands in the plan, and not beside it")
+    plan = read_plan(arguments.plan)
     return plan.graphs, plan.rules, plan.daemons, plan.seeds, plan.disturbances
 
 
-def refuse_beside(given: argparse.Namespace, flags: Iterable[str], why: str) -> None:
+def refuse_beside(arguments: argparse.Namespace, flags: Iterable[str], why: str) -> None:
     """Raises `ValueError` if one of these flags is given."""
     for flag in flags:
         name = flag[2:].replace("-", "_")
-        is_usual = getattr(given, name) in (None, given.parser.get_default(name))
+        is_usual = getattr(arguments, name) in (None, arguments.parser.get_default(name))
         # argparse converts defaults that are texts
-        if not is_usual and getattr(given, name) != usual_of(given.parser, name):
+        if not is_usual and getattr(arguments, name) != usual_of(arguments.parser, name):
             raise ValueError(f"{flag} {why}")
 
 
@@ -271,26 +279,30 @@ def usual_of(parser: argparse.ArgumentParser, name: str) -> object:
     return parser._get_value(action, action.default) if isinstance(action.default, str) else action.default
 
 
-def experiments_given(given: argparse.Namespace, words: Words) -> list[sweeps.Experiment]:
+def experiments_given(arguments: argparse.Namespace, words: Words) -> list[sweeps.Experiment]:
     """The experiments to play; tells of those that are left out. Raises `ValueError` if there are none."""
-    todo = sweeps.experiments_of(*words)
+    experiments = sweeps.experiments_of(*words)
     most = math.prod(map(len, words))
-    if len(todo) < most:
+    if len(experiments) < most:
         why = "under hh no two nodes move at once, and there are no flags"
-        if not todo:
+        if not experiments:
             raise ValueError(f"there is nothing to play: {why}")
-        print(f"! left out: {counted(most - len(todo), 'experiment')}, since {why}", file=sys.stderr)
-    if given.plot:
+        print(f"! left out: {counted(most - len(experiments), 'experiment')}, since {why}", file=sys.stderr)
+    if arguments.plot:
         from . import plots
 
-        plots.check(given.plot, len(words[0]) * len(words[4]))
-    return todo
+        plots.check(arguments.plot, len(words[0]) * len(words[4]))
+    return experiments
 
 
-def refuse_clashes(given: argparse.Namespace, graphs: Sequence[Graph] = (), hits: Sequence[Disturbance] = ()) -> None:
+def refuse_clashes(
+    arguments: argparse.Namespace, graphs: Sequence[Graph] = (), hits: Sequence[Disturbance] = ()
+) -> None:
     """Raises `ValueError` if rows or a plot would be written over a file that is read."""
     files = [it.title for hit in hits for it in (hit.trace, hit.racks) if it]
-    outputs.refuse_clashes([given.csv, given.plot], [given.plan, *map(path_of, graphs), *files, given.program])
+    outputs.refuse_clashes(
+        [arguments.csv, arguments.plot], [arguments.plan, *map(path_of, graphs), *files, arguments.program]
+    )
 
 
 def path_of(graph: Graph) -> Optional[str]:
@@ -298,84 +310,84 @@ def path_of(graph: Graph) -> Optional[str]:
     return graph.title if is_path(graph.title) else None
 
 
-def rows_of(given: argparse.Namespace, rows: list[Row], is_written: bool) -> int:
+def play_sweep(arguments: argparse.Namespace, rows: list[Row], is_written: bool) -> int:
     """Plays a sweep, and writes each row as it comes unless it goes nowhere; returns the exit status."""
-    words = words_to_play(given)
-    refuse_clashes(given, words[0], words[4])
-    target = RowTarget(given.csv, given.resume, given.force)
-    todo = experiments_given(given, words)
-    target.check({it.graph.title: it.graph for it in todo}, given.maximum, given.partners, words[4])
+    words = words_to_play(arguments)
+    refuse_clashes(arguments, words[0], words[4])
+    target = RowTarget(arguments.csv, arguments.resume, arguments.force)
+    experiments = experiments_given(arguments, words)
+    target.check({it.graph.title: it.graph for it in experiments}, arguments.maximum, arguments.partners, words[4])
     rows += target.rows
-    with executor_of(given) as executor:
+    with executor_of(arguments) as executor:
         found = sweeps.sweep(
             *words,
             executor=executor,
-            program=given.program,
-            processes=given.processes,
+            program=arguments.program,
+            processes=arguments.processes,
             there=rows,
-            maximum=given.maximum,
-            partners=given.partners,
+            maximum=arguments.maximum,
+            partners=arguments.partners,
         )
-        left = len(todo) - len({row.key for row in rows} & {it.key for it in todo})
+        left = len(experiments) - len({row.key for row in rows} & {it.key for it in experiments})
         try:
             found.wait()
             with target.opened() if is_written else contextlib.nullcontext() as file:
                 written: Iterable[Row] = sweeps.write_csv(found, file, bool(target.columns)) if file else found
                 rows.extend(shown(written, left))
         except KeyboardInterrupt:
-            print(f"! cut short: {target.count(rows)} of {counted(len(todo), 'row')} are there", file=sys.stderr)
+            print(f"! cut short: {target.count(rows)} of {counted(len(experiments), 'row')} are there", file=sys.stderr)
             return INTERRUPTED
-    target.sort(rows, (it.key for it in todo), found.columns)
+    target.sort(rows, (it.key for it in experiments), found.columns)
     return DONE
 
 
-def rows_given(given: argparse.Namespace) -> Optional[list[Row]]:
+def rows_given(arguments: argparse.Namespace) -> Optional[list[Row]]:
     """The rows of a file that is given instead of a plan; None if it is none of rows."""
-    if given.plan is None or not is_row_file(given.plan):
+    if arguments.plan is None or not is_row_file(arguments.plan):
         return None
-    refuse_beside(given, (*IN_PLAN, *IN_SWEEP), f"is for rows that are to be played, and {given.plan} has rows")
-    refuse_clashes(given)
-    if given.plot:
+    refuse_beside(arguments, (*IN_PLAN, *IN_SWEEP), f"is for rows that are to be played, and {arguments.plan} has rows")
+    refuse_clashes(arguments)
+    if arguments.plot:
         from . import plots
 
-        plots.check(given.plot)
-    return rows_of_file(given.plan)
+        plots.check(arguments.plot)
+    return rows_of_file(arguments.plan)
 
 
-def run_sweep(given: argparse.Namespace) -> int:
-    there = rows_given(given)
-    if there is not None and not given.plot:
+def run_sweep(arguments: argparse.Namespace) -> int:
+    there = rows_given(arguments)
+    if there is not None and not arguments.plot:
         raise ValueError(
-            f"the rows of {given.plan} are there: --plot draws them, and `compare {given.plan}` prints a table"
+            f"the rows of {arguments.plan} are there: --plot draws them, and `compare {arguments.plan}` prints a table"
         )
     rows = there or []
-    status = DONE if there is not None else rows_of(given, rows, True)
-    plot_rows(given, rows)
+    status = DONE if there is not None else play_sweep(arguments, rows, True)
+    plot_rows(arguments, rows)
     return status
 
 
-def plot_rows(given: argparse.Namespace, rows: list[Row]) -> None:
-    if given.plot and rows:
+def plot_rows(arguments: argparse.Namespace, rows: list[Row]) -> None:
+    if arguments.plot and rows:
         from . import plots
 
-        plots.of_rows(rows, given.plot, given.plotted)
+        plots.of_rows(rows, arguments.plot, arguments.plotted)
 
 
-def run_compare(given: argparse.Namespace) -> int:
-    there = rows_given(given)
+def run_compare(arguments: argparse.Namespace) -> int:
+    there = rows_given(arguments)
     rows = there or []
-    status = DONE if there is not None else rows_of(given, rows, given.csv is not None)
-    print("\n".join(tables.table_of(rows, given.markdown)))
-    plot_rows(given, rows)
+    status = DONE if there is not None else play_sweep(arguments, rows, arguments.csv is not None)
+    print("\n".join(tables.table_of(rows, arguments.markdown)))
+    plot_rows(arguments, rows)
     return status
 
 
-def run_worst(given: argparse.Namespace) -> int:
+def run_worst(arguments: argparse.Namespace) -> int:
     """Writes the longest schedule as a script, after the script was played and its transcript judged."""
-    names = outputs.names_file(given.output)
-    outputs.refuse_clashes([given.output, names], [path_of(given.graph), given.program])
-    found = longest(given.graph, given.rules, seconds=given.seconds, seed=given.seed)
-    transcript = found.play(program=given.program)
+    names = outputs.names_file(arguments.output)
+    outputs.refuse_clashes([arguments.output, names], [path_of(arguments.graph), arguments.program])
+    found = longest(arguments.graph, arguments.rules, seconds=arguments.seconds, seed=arguments.seed)
+    transcript = found.play(program=arguments.program)
     known = (
         f"the longest of all, in {found.states} states"
         if found.is_proved
@@ -383,11 +395,11 @@ def run_worst(given: argparse.Namespace) -> int:
     )
     print(
         f"{found.graph.title}, {found.rules}: {found.moves} moves, {known}; the bound is {found.bound}"
-        f"{'' if given.transcript else f'; to play it: rudekpi run {found.setting}'}{nodes_told(found, names)}",
+        f"{'' if arguments.transcript else f'; to play it: rudekpi run {found.setting}'}{nodes_told(found, names)}",
         file=sys.stderr,
     )
-    outputs.write(given.output, transcript if given.transcript else found.script())
-    if names and not found.has_own_numbers and outputs.is_file(given.output):
+    outputs.write(arguments.output, transcript if arguments.transcript else found.script())
+    if names and not found.has_own_numbers and outputs.is_file(arguments.output):
         write_names(names, found.graph.nodes)
     return DONE
 
@@ -401,9 +413,9 @@ def nodes_told(found: Longest, names: Optional[str]) -> str:
     return f"; the nodes 1 to {count} are {first}{', ..' if count > MOST_TOLD else ''}{f': {names}' if names else ''}"
 
 
-def run_check(given: argparse.Namespace) -> int:
-    outputs.refuse_clashes([], [given.script])
-    script = read(given.script)
+def run_check(arguments: argparse.Namespace) -> int:
+    outputs.refuse_clashes([], [arguments.script])
+    script = read(arguments.script)
     count = 0
     for count, (number, why) in enumerate(script_words.faults_of(script), 1):
         print(f"line {number}: {why}")
@@ -417,20 +429,20 @@ def run_check(given: argparse.Namespace) -> int:
     return FAILED if count else DONE
 
 
-def run_shell(given: argparse.Namespace) -> int:
-    with Network(given.rules, given.nodes, present=given.present, program=given.program) as net:
+def run_shell(arguments: argparse.Namespace) -> int:
+    with Network(arguments.rules, arguments.nodes, present=arguments.present, program=arguments.program) as net:
         return shell.talk(net)
 
 
-def run_json(given: argparse.Namespace) -> int:
-    outputs.refuse_clashes([], [given.transcript, given.names])
-    transcript = read(given.transcript)
+def run_json(arguments: argparse.Namespace) -> int:
+    outputs.refuse_clashes([], [arguments.transcript, arguments.names])
+    transcript = read(arguments.transcript)
     try:
-        audit(transcript, program=given.program)
+        audit(transcript, program=arguments.program)
     except Damaged as damaged:
         print(damaged, file=sys.stderr)
         return FAILED
-    for line in json_lines.lines_of(transcript.decode(), log_commands.names_given(given)):
+    for line in json_lines.lines_of(transcript.decode(), log_commands.names_given(arguments)):
         print(line)
     return DONE
 
@@ -491,8 +503,8 @@ def parser_of() -> argparse.ArgumentParser:
 
 
 def run(words: Optional[Sequence[str]] = None) -> int:
-    given = parser_of().parse_args(words)
-    if hasattr(given, "graph"):
-        read_graphs(given)
-    status: int = given.run(given)
+    arguments = parser_of().parse_args(words)
+    if hasattr(arguments, "graph"):
+        read_graphs(arguments)
+    status: int = arguments.run(arguments)
     return status

@@ -140,29 +140,29 @@ def seconds(text: str) -> float:
     return found
 
 
-def run_conform(given: argparse.Namespace) -> int:
-    if given.output == "-":
+def run_conform(arguments: argparse.Namespace) -> int:
+    if arguments.output == "-":
         raise ValueError("a transcript goes to a file, since the verdict goes to standard output")
-    if given.ages is not None and not given.views:
+    if arguments.ages is not None and not arguments.views:
         raise ValueError("--ages needs --views: without it no ages are counted")
-    written = [given.output, outputs.names_file(given.output), given.ages]
-    outputs.refuse_clashes(written, [*(given.log or ["-"]), given.program])
+    written = [arguments.output, outputs.names_file(arguments.output), arguments.ages]
+    outputs.refuse_clashes(written, [*(arguments.log or ["-"]), arguments.program])
     judge = LogJudge(
-        given.rules,
-        resync=given.resync,
-        views=given.views,
-        age=given.age,
-        ignore_extra=given.ignore_extra,
-        keeps=given.output is not None,
-        stuck=given.stuck,
+        arguments.rules,
+        resync=arguments.resync,
+        views=arguments.views,
+        age=arguments.age,
+        ignore_extra=arguments.ignore_extra,
+        keeps=arguments.output is not None,
+        stuck=arguments.stuck,
         on_divergence=lambda found: say(divergence_text(found)),
         on_note=lambda note: say(str(note)),
-        program=given.program,
+        program=arguments.program,
     )
-    with opened_input(log_of(given.log)) as source:
+    with opened_input(log_of(arguments.log)) as source:
         try:
-            status = judged(judge, source, given.output, given.ages)
-            if not given.stop:
+            status = judged(judge, source, arguments.output, arguments.ages)
+            if not arguments.stop:
                 source.drain()
             return status
         except KeyboardInterrupt:
@@ -200,20 +200,20 @@ def words_of_names(parser: argparse.ArgumentParser) -> None:
     parser.add_argument("--names", help="a file of the nodes' names, of which line K is that of node K")
 
 
-def names_given(given: argparse.Namespace) -> Optional[list[Name]]:
-    if given.names != "-":
-        return None if given.names is None else read_names(given.names)
-    if given.transcript == "-":
+def names_given(arguments: argparse.Namespace) -> Optional[list[Name]]:
+    if arguments.names != "-":
+        return None if arguments.names is None else read_names(arguments.names)
+    if arguments.transcript == "-":
         raise ValueError("standard input has the transcript or the names, and not both")
     return names_in(sys.stdin.buffer.read(), "standard input")
 
 
-def run_explain(given: argparse.Namespace) -> int:
-    outputs.refuse_clashes([], [given.transcript, given.names])
-    transcript = read(given.transcript)
-    found = explain(transcript, names=names_given(given), program=given.program)
+def run_explain(arguments: argparse.Namespace) -> int:
+    outputs.refuse_clashes([], [arguments.transcript, arguments.names])
+    transcript = read(arguments.transcript)
+    found = explain(transcript, names=names_given(arguments), program=arguments.program)
     if found is None:
-        has = audit(transcript, program=given.program)
+        has = audit(transcript, program=arguments.program)
         say(
             f"accepted: {counted(has.entries, 'entry', 'entries')}, {counted(has.epochs, 'epoch')}, "
             f"{counted(has.moves, 'move')}"

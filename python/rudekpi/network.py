@@ -429,8 +429,8 @@ class Network:
         A round is the shortest part of a run after which each node that was enabled at its start has moved, or
         was not enabled in some state since. An accepted edit or fault cuts it off. A resumed network counts no
         rounds before this call; `renumber` changes no count. From then on a step costs a look or two more at each
-        neighbour of a node that moves. No entry is added. Raises `MemoryError` if memory runs out; then nothing
-        has changed. Raises `NoSuchCommand` with a program.
+        node that moves and at each that it disables. No entry is added. Raises `MemoryError` if memory runs out;
+        then nothing has changed. Raises `NoSuchCommand` with a program.
         """
         self._session.count_rounds()
 

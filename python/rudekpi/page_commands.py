@@ -15,31 +15,33 @@ DONE, FAILED = 0, 1
 Command = Callable[[str, Callable[[argparse.Namespace], int], str], argparse.ArgumentParser]
 
 
-def run_page(given: argparse.Namespace) -> int:
-    refuse_clashes(given)
-    transcript, names = read(given.transcript), names_given(given)
+def run_page(arguments: argparse.Namespace) -> int:
+    refuse_clashes(arguments)
+    transcript, names = read(arguments.transcript), names_given(arguments)
     try:
-        audits.audit(transcript, program=given.program)
+        audits.audit(transcript, program=arguments.program)
     except Damaged as damaged:
         print(damaged, file=sys.stderr)
         return FAILED
     text = transcript.decode()
-    drawings.write_page(text, given.output, given.program, names_for(text, names))
+    drawings.write_page(text, arguments.output, arguments.program, names_for(text, names))
     return DONE
 
 
-def refuse_clashes(given: argparse.Namespace) -> None:
-    outputs.refuse_clashes([given.output], [given.transcript, given.names, given.program])
+def refuse_clashes(arguments: argparse.Namespace) -> None:
+    outputs.refuse_clashes([arguments.output], [arguments.transcript, arguments.names, arguments.program])
 
 
-def run_picture(given: argparse.Namespace) -> int:
-    refuse_clashes(given)
+def run_picture(arguments: argparse.Namespace) -> int:
+    refuse_clashes(arguments)
     try:
-        text = audits.picture(read(given.transcript), given.entry, names=names_given(given), program=given.program)
+        text = audits.picture(
+            read(arguments.transcript), arguments.entry, names=names_given(arguments), program=arguments.program
+        )
     except Damaged as damaged:
         print(damaged)
         return FAILED
-    outputs.write(given.output, text)
+    outputs.write(arguments.output, text)
     return DONE
 
 

@@ -312,32 +312,32 @@ def sweep(
     if maximum:
         maximum_matchings.check()
     every = experiments_of(graphs, rules, daemons, seeds, faults, program, maximum, partners)
-    todo, played = [it for it in every if it.key not in known], {it.graph.title: it.graph for it in every}
+    experiments, played = [it for it in every if it.key not in known], {it.graph.title: it.graph for it in every}
     for graph in played.values():
         _ = graph.digest  # found once, before it goes to workers
     if executor is not None:
-        return Rows(rows_of(todo, executor), played.values(), columns_of(maximum, partners))
+        return Rows(rows_of(experiments, executor), played.values(), columns_of(maximum, partners))
     # built and named once, before any worker looks for it
     found_program(program)
-    given = max(1, min(processes or os.cpu_count() or 1, len(todo)))
-    return Rows(rows_of(todo, given), played.values(), columns_of(maximum, partners))
+    workers = max(1, min(processes or os.cpu_count() or 1, len(experiments)))
+    return Rows(rows_of(experiments, workers), played.values(), columns_of(maximum, partners))
 
 
 class Tasks:
     """Tasks of about a second, judged by the rows so far; each at most one worker's share of what is left."""
 
-    def __init__(self, todo: Iterable[Experiment], workers: int) -> None:
-        self.todo, self.workers = deque(todo), workers
+    def __init__(self, experiments: Iterable[Experiment], workers: int) -> None:
+        self.experiments, self.workers = deque(experiments), workers
         self.count, self.seconds = 0, 0.0
 
     def __iter__(self) -> Tasks:
         return self
 
     def __next__(self) -> list[Experiment]:
-        if not self.todo:
+        if not self.experiments:
             raise StopIteration
-        size = min(self.size(), -(-len(self.todo) // self.workers))
-        return [self.todo.popleft() for _ in range(size)]
+        size = min(self.size(), -(-len(self.experiments) // self.workers))
+        return [self.experiments.popleft() for _ in range(size)]
 
     def size(self) -> int:
         return max(1, int(TASK_SECONDS * self.count / self.seconds)) if self.seconds else 1
@@ -346,9 +346,9 @@ class Tasks:
         self.count, self.seconds = self.count + len(rows), self.seconds + sum(row.seconds for row in rows)
 
 
-def rows_of(todo: list[Experiment], given: Union[Executor, int]) -> Generator[Row, None, None]:
-    tasks, lost = Tasks(todo, count_of(given)), []
-    handing: Handing[list[Experiment]] = Handing(tasks, lambda task: (run_all, task), given)
+def rows_of(experiments: list[Experiment], workers: Union[Executor, int]) -> Generator[Row, None, None]:
+    tasks, lost = Tasks(experiments, count_of(workers)), []
+    handing: Handing[list[Experiment]] = Handing(tasks, lambda task: (run_all, task), workers)
     with contextlib.closing(handing.done()) as done:
         for task, future in done:
             if not future:

@@ -371,7 +371,8 @@ impl Network {
     /// Counts rounds from here on, or from here anew.
     ///
     /// A round is the shortest part of a run after which each node that was enabled at its start has moved, or was
-    /// not enabled in some state since. From then on a step costs a look or two more at each neighbour of a mover.
+    /// not enabled in some state since. From then on a step costs a look or two more at each mover and at each
+    /// node that it disables.
     /// Returns `Fault::NoMemory` if some nine kilobytes can't be had; then nothing has changed.
     pub fn count_rounds(&mut self) -> Result<(), Fault> {
         match unsafe { ffi::rudekpi_count_rounds(&mut *self.slot) } {
