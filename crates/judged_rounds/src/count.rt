@@ -10,7 +10,7 @@ ghost use Rattle.round_counter.specs.Counting.{HasCounted, is_step};
 use crate::around::mark_affected;
 use crate::looks::look_again;
 use enabled_set::{EnabledSet, Marks, Removals};
-use reply_checker::Judge;
+use reply_checker::{Judge, Witness};
 use round_counter::RoundCounter;
 use rule_machine::{Event, Reply, RuleSet, Want};
 use std::alloc::Global;
@@ -19,7 +19,7 @@ use std::alloc::Global;
 ///
 /// A name is due from the call before an entry, which may enable or disable a rule there, to the call after it.
 /// `removals` has the names that left the set since the last step.
-/// `callers` has for each name the index in its neighbour list of the caller that was found last.
+/// `witnesses` has for each name the node on which its rules depend.
 #[derive(Drop)]
 pub struct JudgedRounds {
     rules: RuleSet,
@@ -27,11 +27,11 @@ pub struct JudgedRounds {
     enabled: EnabledSet,
     removals: Removals,
     due: Marks,
-    callers: Vec<u16>,
+    witnesses: Vec<Witness>,
     counter: RoundCounter,
     ghost places: { length enabled ≡ size + 1 },
     ghost due_places: { length due ≡ size + 1 },
-    ghost caller_places: { length callers.items ≡ size + 1 },
+    ghost witness_places: { length witnesses.items ≡ size + 1 },
 }
 
 /// Copies the pending nodes before a step.
@@ -57,7 +57,7 @@ impl JudgedRounds {
 
     /// A count by these rules that begins in the judge's state, with no complete round.
     ///
-    /// Cost: a look at each name. Takes some nine kilobytes and six bytes a name. Error: out of memory.
+    /// Cost: a look at each name. Takes some nine kilobytes and ten bytes a name. Error: out of memory.
     pub fn new(alloc: Global, rules: RuleSet, judge: &Judge) -> Result<JudgedRounds, Want>
         ensures rules { IfOk result (λ it. it.rules ≡ rules) }
         ensures rounds { IfOk result (λ it. it.counter.rounds ≡ 0) }
@@ -68,7 +68,7 @@ impl JudgedRounds {
         let mut removals = Removals::new(alloc)?;
         let mut due = Marks::new(alloc, size)?;
         due.mark_all();
-        let mut callers = vec![in alloc; 0; size as usize + 1]?;
+        let mut witnesses = vec![in alloc; Witness::new(); size as usize + 1]?;
         let counter = RoundCounter::new(alloc)?;
         // Gives the prover `IsState`.
         let _ = judge.net();
@@ -76,7 +76,7 @@ impl JudgedRounds {
             &mut enabled,
             &mut removals,
             &mut due,
-            &mut callers,
+            &mut witnesses,
             judge,
             rules,
         );
@@ -86,7 +86,7 @@ impl JudgedRounds {
             enabled,
             removals,
             due,
-            callers,
+            witnesses,
             counter,
         })
     }
@@ -100,8 +100,9 @@ impl JudgedRounds {
 
     /// Marks the names whose rules an event with this reply may enable or disable.
     ///
-    /// Call it before the judge carries the event out. Cost: a look at each node that the entry changes and at
-    /// each of its neighbours; for a node that leaves, also at the neighbours of each node that points at it. At
+    /// Call it before the judge carries the event out. Cost: for each node that moves, or whose registers a fault
+    /// writes, a look at the witness of each neighbour. For an edge or node that goes, a mark at each neighbour of
+    /// its ends or of the node; for a node that leaves, also at the neighbours of each node that points at it. At
     /// a round's beginning, a copy of the set of enabled nodes, 64 names at a time.
     pub fn prepare(&mut self, judge: &Judge, event: &Event, reply: &Reply)
         ensures rules { self.new.rules ≡ self.old.rules }
@@ -109,7 +110,14 @@ impl JudgedRounds {
         ensures ready { (start : State) (log : List Entry) → CountsIn start log judge.now self.old → IsReadyFor start log judge.now event.now reply.now self.new }
     {
         begin(&mut self.counter, &self.enabled, reply);
-        mark_affected(&mut self.due, self.size, judge, event, reply);
+        mark_affected(
+            &mut self.due,
+            self.size,
+            &self.witnesses,
+            judge,
+            event,
+            reply,
+        );
     }
 
     /// Counts an entry that `prepare` was called with, after the judge carried it out.
@@ -129,7 +137,7 @@ impl JudgedRounds {
             &mut self.enabled,
             &mut self.removals,
             &mut self.due,
-            &mut self.callers,
+            &mut self.witnesses,
             judge,
             self.rules,
         );

@@ -4,30 +4,29 @@ ghost use Rattle.std.specs.Prelude.{◌≡◌, ◌<◌, ℕ, Bool, List, false, 
 ghost use Rattle.enabled_set.specs.Members.{is_in};
 ghost use Rattle.enabled_set.specs.RemovedNames.{KeepsNotes};
 ghost use Rattle.rule_machine.specs.Tables.{table_of};
-ghost use Rattle.judged_rounds.specs.Following.{AreOnBut, is_on};
+ghost use Rattle.judged_rounds.specs.Following.{AreOnBut};
+ghost use Rattle.reply_checker.specs.Witnesses.{RestsOn, is_on};
 
 use enabled_set::{EnabledSet, Marks, Removals};
-use reply_checker::{Judge, is_enabled};
+use reply_checker::{Judge, Witness, is_enabled};
 use rule_machine::{Node, RuleSet};
 
-/// Looks at `v`, and notes it if it leaves the set.
-/// `callers` has for each name the index of the caller that was found last.
-fn look(
-    enabled: &mut EnabledSet,
-    removals: &mut Removals,
-    callers: &mut [u16],
-    judge: &Judge,
-    rules: RuleSet,
-    v: Node,
-)
-    requires within { v < length enabled.old }
-    requires places { v < length callers.old }
-    ensures set { enabled.new ≡ slice_set enabled.old v (is_on (table_of rules) judge.now v) }
-    ensures noted { KeepsNotes enabled.old removals.old enabled.new removals.new }
-    ensures places { length callers.new ≡ length callers.old }
+/// Whether `v` is a node with an enabled rule; stores on which node that depends.
+fn is_on(judge: &Judge, rules: RuleSet, v: Node, witness: &mut Witness) -> bool
+    ensures value { result ≡ is_on (table_of rules) judge.now v }
+    ensures rests { RestsOn (table_of rules) judge.now v witness.new.node }
 {
     let net = judge.net();
-    if net.has(v) && is_enabled(net, rules, v, &mut callers[v.place()]) {
+    net.has(v) && is_enabled(net, rules, v, witness)
+}
+
+/// Puts `v` into the set or removes it, and notes it if it leaves the set.
+fn set_enabled(enabled: &mut EnabledSet, removals: &mut Removals, v: Node, on: bool)
+    requires { v < length enabled.old }
+    ensures set { enabled.new ≡ slice_set enabled.old v on }
+    ensures noted { KeepsNotes enabled.old removals.old enabled.new removals.new }
+{
+    if on {
         enabled.insert(v);
     } else {
         enabled.remove_noted(v, removals);
@@ -39,19 +38,20 @@ pub(crate) fn look_again(
     enabled: &mut EnabledSet,
     removals: &mut Removals,
     due: &mut Marks,
-    callers: &mut [u16],
+    witnesses: &mut [Witness],
     judge: &Judge,
     rules: RuleSet,
 )
     requires due_places { length enabled.old ≡ length due.old }
-    requires caller_places { length enabled.old ≡ length callers.old }
-    ensures on { AreOnBut (table_of rules) judge.now enabled.old due.old → AreOnBut (table_of rules) judge.now enabled.new due.new }
+    requires witness_places { length enabled.old ≡ length witnesses.old }
+    ensures on { AreOnBut (table_of rules) judge.now enabled.old due.old witnesses.old → AreOnBut (table_of rules) judge.now enabled.new due.new witnesses.new }
     ensures noted { KeepsNotes enabled.old removals.old enabled.new removals.new }
     ensures none { (v : ℕ) → is_in due.new v ≡ false }
     ensures places { (length enabled.new ≡ length enabled.old) × (length due.new ≡ length due.old) }
-    ensures caller_places { length callers.new ≡ length callers.old }
+    ensures witness_places { length witnesses.new ≡ length witnesses.old }
 {
     while let Some(v) = due.take() {
-        look(enabled, removals, callers, judge, rules, v);
+        let on = is_on(judge, rules, v, &mut witnesses[v.place()]);
+        set_enabled(enabled, removals, v, on);
     }
 }

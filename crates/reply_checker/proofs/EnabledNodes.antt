@@ -1,5 +1,5 @@
 -- Whether a rule is enabled at a node with a null pointer: one look at its neighbours decides.
-use Rattle.reply_checker.proofs.Prelude.{◌≡◌, ℕ, Bool, true, false, cond, not, ◌&&◌, ◌||◌, List, [], ◌∷◌, take, drop, length, ◌-◌, find, Option, None, Some, is_some, is_none, nat_le, ap, ◌∙◌, refl, sym, arith, list_any, list_any-append, take-append-drop, take_all, length-drop, or_right, neighbours, State, pointer, points, flag, married, suits, has_suitor, holds_at, is_open, rule_at, hsu_huang, hsu_huang_opens, manne, may_court, Act, Update, Marry, Seduce, Abandon}
+use Rattle.reply_checker.proofs.Prelude.{◌≡◌, ℕ, Bool, true, false, cond, not, ◌&&◌, ◌||◌, List, [], ◌∷◌, take, drop, length, ◌-◌, find, Option, None, Some, is_some, is_none, nat_le, ap, ap₂, ◌∙◌, null_unmarried, refl, sym, arith, list_any, list_any-append, take-append-drop, take_all, length-drop, or_right, neighbours, State, pointer, points, flag, suits, has_suitor, holds_at, is_open, rule_at, hsu_huang, hsu_huang_opens, manne, may_court, Act, Update, Marry, Seduce, Abandon}
 
 one_of_both : (p q : ℕ → Bool) (xs : List ℕ) → list_any (λ w. p w || q w) xs ≡ (is_some (find p xs) || is_some (find q xs))
 one_of_both p q [] = refl
@@ -36,16 +36,13 @@ hsu_huang_null s v null =
     by false true = refl
     by false false = refl
 
-pub manne_null : (s : State) (v : ℕ) → flag s v ≡ married s v → pointer s v ≡ None → list_any (λ w. suits s v w || may_court s v w) (neighbours s.network v) ≡ is_some (rule_at manne s v)
-manne_null s v right null =
+pub manne_null : (s : State) (v : ℕ) → flag s v ≡ false → pointer s v ≡ None → list_any (λ w. suits s v w || may_court s v w) (neighbours s.network v) ≡ is_some (rule_at manne s v)
+manne_null s v unflagged null =
     one_of_both (suits s v) (may_court s v) (neighbours s.network v)
     ∙ by (has_suitor s v) (is_some (find (may_court s v) (neighbours s.network v)))
     ∙ ap (λ o. is_some (rule true o (has_suitor s v) (is_some (find (may_court s v) (neighbours s.network v))))) (sym null)
-    ∙ ap (λ b. is_some (rule b (pointer s v) (has_suitor s v) (is_some (find (may_court s v) (neighbours s.network v))))) (sym (settled (married s v) (flag s v) right))
+    ∙ ap (λ b. is_some (rule b (pointer s v) (has_suitor s v) (is_some (find (may_court s v) (neighbours s.network v))))) (sym (ap₂ (λ m f. cond m f (not f)) (null_unmarried s v null) unflagged))
   where
-    settled : (married flag : Bool) → flag ≡ married → cond married flag (not flag) ≡ true
-    settled married flag h = grind arith
-
     rule : Bool → Option ℕ → Bool → Bool → Option Act
     rule settled o suitor court =
         cond (not settled) (Some Update)

@@ -13,3 +13,4 @@ pub mod ChargeSums
 pub mod BaseStarts
 mod Degrees
 mod EnabledNodes
+mod Witnesses

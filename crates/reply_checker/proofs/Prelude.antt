@@ -76,3 +76,4 @@ pub use Rattle.reply_checker.specs.Choices.{ruled_at, item_at, IsRuled, HasChose
 pub use Rattle.reply_checker.specs.Contributions.{AreExactIfFresh, asks, AreAsking, AddsMember, edge_stance_by, closes, flag_charge, adds, absent_contribution, AreFresh, AreStatusSums, IsContributionAt, FitsTwoBits, contribution_of_name, IsShare}
 pub use Rattle.reply_checker.specs.declared.choices.RuledItem.{RuledItem}
 pub use Rattle.reply_checker.specs.declared.contribution.Contribution.{Contribution}
+pub use Rattle.reply_checker.specs.Witnesses.{RestsOn}

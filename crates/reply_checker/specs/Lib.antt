@@ -4,3 +4,4 @@ pub mod Contributions
 pub mod ReplyVerdicts
 pub mod AscendingLists
 pub mod Bases
+pub mod Witnesses

@@ -2,12 +2,14 @@
 //!
 //! A neighbour calls a node with a null pointer if it points at the node or the node may court it.
 
-ghost use Rattle.std.specs.Prelude.{◌≡◌, ◌<◌, ◌≤◌, All, IfSome, IsTrue, is_some, length};
+ghost use Rattle.std.specs.Prelude.{◌≡◌, ◌<◌, ◌≤◌, All, IfSome, IsTrue, is_some, length, slice_index_or};
 ghost use Rattle.std.specs.List.{list_any};
-ghost use Rattle.rule_machine.specs.Network.{neighbours, present};
+ghost use Rattle.rule_machine.specs.Network.{linked, neighbours, present};
+ghost use Rattle.rule_machine.specs.State.{IsState};
 ghost use Rattle.reply_checker.specs.Callers.{calls_by};
 
 use crate::rules::first_caller;
+use crate::witness::Witness;
 use net_state::NetState;
 use rule_machine::{Node, RuleSet};
 
@@ -17,6 +19,7 @@ fn caller_from(net: &NetState, rules: RuleSet, row: &[Node], v: Node, start: usi
     requires within { start ≤ length row.now }
     ensures some { is_some result ≡ list_any (calls_by rules net.now.state v) row.now }
     ensures inside { IfSome result (λ at. at < length row.now) }
+    ensures calls { IfSome result (λ at. IsTrue (calls_by rules net.now.state v (slice_index_or row.now at 0))) }
 {
     match first_caller(net, rules, &row[start..], v) {
         Some(at) => Some(start + at),
@@ -24,23 +27,30 @@ fn caller_from(net: &NetState, rules: RuleSet, row: &[Node], v: Node, start: usi
     }
 }
 
-/// Whether a neighbour calls `v`; stores the caller's index in `place`.
+/// Whether a neighbour calls `v`; stores the caller in `witness`, or `None`.
 ///
 /// Looks at the neighbours from index `place` on, then at those before it.
 #[tactic(auto, using(crate::proofs::Degrees::few_edges))]
-pub(crate) fn calls_any(net: &NetState, rules: RuleSet, v: Node, place: &mut u16) -> bool
+pub(crate) fn calls_any(net: &NetState, rules: RuleSet, v: Node, witness: &mut Witness) -> bool
     requires { IsTrue (present net.now.state.network v) }
-    ensures { result ≡ list_any (calls_by rules net.now.state v) (neighbours net.now.state.network v) }
+    ensures value { result ≡ list_any (calls_by rules net.now.state v) (neighbours net.now.state.network v) }
+    ensures sound { IsState net.now.state }
+    ensures linked { IfSome witness.new.node (λ w. IsTrue (linked net.now.state.network v w)) }
+    ensures calls { IfSome witness.new.node (λ w. IsTrue (calls_by rules net.now.state v w)) }
 {
     // Gives the prover that there are few names.
     let _ = net.capacity();
     let row = net.neighbours(v);
-    let start = usize::from(*place).min(row.len());
+    let start = usize::from(witness.place).min(row.len());
     match caller_from(net, rules, row, v, start) {
         Some(at) => {
-            *place = at as u16;
+            witness.place = at as u16;
+            witness.node = Some(row[at]);
             true
         }
-        None => false,
+        None => {
+            witness.node = None;
+            false
+        }
     }
 }

@@ -1,6 +1,6 @@
 //! Hsu and Huang's rules: one node moves at a time, and no flag is used.
 
-ghost use Rattle.std.specs.Prelude.{◌≡◌, ◌<◌, ◌≤◌, All, IfSome, IsTrue, find, is_none, is_some, length};
+ghost use Rattle.std.specs.Prelude.{◌≡◌, ◌<◌, ◌≤◌, All, IfSome, IsTrue, find, is_none, is_some, length, slice_index_or};
 ghost use Rattle.std.specs.List.{list_any};
 ghost use Rattle.rule_machine.specs.Network.{present};
 ghost use Rattle.rule_machine.specs.State as state;
@@ -10,10 +10,12 @@ ghost use Rattle.machine_laws.specs.ClosedByPointers.{hsu_huang_closes};
 ghost use Rattle.machine_laws.specs.Costs as costs;
 ghost use Rattle.machine_laws.specs.Degrees as degrees;
 ghost use Rattle.reply_checker.specs.Callers.{hsu_huang_calls};
+ghost use Rattle.reply_checker.specs.Witnesses.{RestsOn};
 ghost use Rattle.reply_checker.specs.Contributions.{hsu_huang_end};
 
 use crate::callers::calls_any;
 use crate::reads::{degree, first_suitor, freed_edges, has_suitor, pointer, points_back};
+use crate::witness::Witness;
 use net_state::{EdgeStance, NetState};
 use rule_machine::{Act, Event, Node, RuleSet};
 
@@ -37,14 +39,18 @@ pub(crate) fn rule_at(net: &NetState, v: Node) -> Option<Act>
     }
 }
 
-/// Whether a rule is enabled. If the pointer is null, looks for a caller from index `place` on.
-pub(crate) fn is_enabled(net: &NetState, v: Node, place: &mut u16) -> bool
+/// Whether a rule is enabled, and on which node that depends.
+pub(crate) fn is_enabled(net: &NetState, v: Node, witness: &mut Witness) -> bool
     requires { IsTrue (present net.now.state.network v) }
-    ensures { result ≡ is_some (table.rule_at hsu_huang net.now.state v) }
+    ensures value { result ≡ is_some (table.rule_at hsu_huang net.now.state v) }
+    ensures rests { RestsOn hsu_huang net.now.state v witness.new.node }
 {
     match net.pointer(v) {
-        Some(w) => !points_back(net, v, w) && pointer(net, w).is_some(),
-        None => calls_any(net, RuleSet::Hh, v, place),
+        Some(w) => {
+            witness.node = Some(w);
+            !points_back(net, v, w) && pointer(net, w).is_some()
+        }
+        None => calls_any(net, RuleSet::Hh, v, witness),
     }
 }
 
@@ -53,6 +59,7 @@ pub(crate) fn first_caller(net: &NetState, row: &[Node], v: Node) -> Option<usiz
     requires { All (λ w. IsTrue (present net.now.state.network w)) row.now }
     ensures some { is_some result ≡ list_any (hsu_huang_calls net.now.state v) row.now }
     ensures inside { IfSome result (λ at. at < length row.now) }
+    ensures calls { IfSome result (λ at. IsTrue (hsu_huang_calls net.now.state v (slice_index_or row.now at 0))) }
 {
     for (at, &w) in row.iter().enumerate() {
         if net.points(w, v) || net.pointer(w).is_none() {

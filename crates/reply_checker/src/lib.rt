@@ -7,6 +7,8 @@
 //!
 //! A judge may begin at a base (`at_base`). It returns the base of its state (`base`) and its network (`net`).
 //! In a network, `rule_at` and `is_enabled` find the enabled rules, and `cost_of` the cost of a disturbance.
+//! `is_enabled` keeps for its node a `Witness`: until the registers of the node or its witness, or its
+//! neighbours, change, the answer stays the same.
 //!
 //! ```rust
 //! let mut judge = Judge::new(alloc, 2)?;
@@ -33,8 +35,10 @@ mod rules;
 mod steps;
 mod targets;
 mod totals;
+mod witness;
 
 use choices::ChosenItems;
 use counted_net::CountedNet;
 pub use judge::Judge;
 pub use rules::{cost_of, is_enabled, rule_at};
+pub use witness::Witness;

@@ -1,7 +1,7 @@
 //! The rules of Manne, Mjelde, Pilard and Tixeuil: any set of nodes moves at once, and flags show who is
 //! married.
 
-ghost use Rattle.std.specs.Prelude.{◌≡◌, ◌<◌, ◌≤◌, ◌&&◌, All, IfSome, IsTrue, Some, find, is_none, is_some, length, nat_lt, not};
+ghost use Rattle.std.specs.Prelude.{◌≡◌, ◌<◌, ◌≤◌, ◌&&◌, All, IfSome, IsTrue, Some, find, is_none, is_some, length, nat_lt, not, slice_index_or};
 ghost use Rattle.std.specs.List.{list_any};
 ghost use Rattle.rule_machine.specs.Charge.{manne_node_charge};
 ghost use Rattle.rule_machine.specs.Network.{neighbours, present};
@@ -11,10 +11,12 @@ ghost use Rattle.rule_machine.specs.Manne.{manne, manne_allowed, may_court};
 ghost use Rattle.machine_laws.specs.ClosedByPointers.{manne_closes};
 ghost use Rattle.machine_laws.specs.Costs as costs;
 ghost use Rattle.reply_checker.specs.Callers.{manne_calls};
+ghost use Rattle.reply_checker.specs.Witnesses.{RestsOn};
 ghost use Rattle.reply_checker.specs.Contributions.{manne_end};
 
 use crate::callers::calls_any;
 use crate::reads::{degree, first_suitor, flag, has_suitor, pointer, points_back};
+use crate::witness::Witness;
 use net_state::{EdgeStance, NetState};
 use rule_machine::{Act, Event, Node, RuleSet};
 
@@ -39,18 +41,34 @@ pub(crate) fn rule_at(net: &NetState, v: Node) -> Option<Act>
     }
 }
 
-/// Whether a rule is enabled. If the pointer is null, looks for a caller from index `place` on.
-pub(crate) fn is_enabled(net: &NetState, v: Node, place: &mut u16) -> bool
+/// Whether a rule is enabled, and on which node that depends.
+pub(crate) fn is_enabled(net: &NetState, v: Node, witness: &mut Witness) -> bool
     requires { IsTrue (present net.now.state.network v) }
-    ensures { result ≡ is_some (table.rule_at manne net.now.state v) }
+    ensures value { result ≡ is_some (table.rule_at manne net.now.state v) }
+    ensures rests { RestsOn manne net.now.state v witness.new.node }
 {
-    if net.flag(v) != net.married(v) {
-        return true;
-    }
     match net.pointer(v) {
-        Some(w) => !points_back(net, v, w) && (flag(net, w) || w <= v),
-        None => calls_any(net, RuleSet::Manne, v, place),
+        Some(w) => {
+            witness.node = Some(w);
+            updates_or_abandons(net, v, w)
+        }
+        None if net.flag(v) => {
+            witness.node = Some(v);
+            true
+        }
+        None => calls_any(net, RuleSet::Manne, v, witness),
     }
+}
+
+/// Whether a rule is enabled at `v`, which points at `w`.
+fn updates_or_abandons(net: &NetState, v: Node, w: Node) -> bool
+    requires present { IsTrue (present net.now.state.network v) }
+    requires at { state.pointer net.now.state v ≡ Some w }
+    ensures value { result ≡ is_some (table.rule_at manne net.now.state v) }
+    ensures sound { state.IsState net.now.state }
+{
+    let _ = net.registers();
+    net.flag(v) != net.married(v) || (!points_back(net, v, w) && (flag(net, w) || w <= v))
 }
 
 /// The index of the first of `row` that points at `v`, or that `v` may court.
@@ -58,6 +76,7 @@ pub(crate) fn first_caller(net: &NetState, row: &[Node], v: Node) -> Option<usiz
     requires { All (λ w. IsTrue (present net.now.state.network w)) row.now }
     ensures some { is_some result ≡ list_any (manne_calls net.now.state v) row.now }
     ensures inside { IfSome result (λ at. at < length row.now) }
+    ensures calls { IfSome result (λ at. IsTrue (manne_calls net.now.state v (slice_index_or row.now at 0))) }
 {
     for (at, &w) in row.iter().enumerate() {
         if net.points(w, v) || (v < w && net.pointer(w).is_none() && !net.flag(w)) {

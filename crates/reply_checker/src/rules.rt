@@ -1,14 +1,16 @@
 //! What differs by the rule set: each function dispatches to the file of its rules.
 
-ghost use Rattle.std.specs.Prelude.{◌≡◌, ◌<◌, ◌≤◌, All, IfSome, IsTrue, is_some, length};
+ghost use Rattle.std.specs.Prelude.{◌≡◌, ◌<◌, ◌≤◌, All, IfSome, IsTrue, is_some, length, slice_index_or};
 ghost use Rattle.std.specs.List.{list_any};
 ghost use Rattle.rule_machine.specs.Network.{present};
 ghost use Rattle.rule_machine.specs.RuleTable as table;
 ghost use Rattle.rule_machine.specs.Tables.{table_of};
 ghost use Rattle.reply_checker.specs.Callers.{calls_by};
 ghost use Rattle.reply_checker.specs.ReplyVerdicts.{cost_by};
+ghost use Rattle.reply_checker.specs.Witnesses.{RestsOn};
 ghost use Rattle.reply_checker.specs.Contributions.{closes, edge_stance_by, flag_charge};
 
+use crate::witness::Witness;
 use crate::{hsu_huang, manne};
 use net_state::{EdgeStance, NetState};
 use rule_machine::{Act, Event, Node, RuleSet};
@@ -25,20 +27,21 @@ pub fn rule_at(net: &NetState, rules: RuleSet, v: Node) -> Option<Act>
     }
 }
 
-/// Whether a rule is enabled at a node.
+/// Whether a rule is enabled at a node; stores in `witness` on which node that depends.
 ///
-/// A neighbour calls the node if it points at the node or the node may court it. `place` is the index in the
-/// neighbour list from which the call looks for a caller. The answer does not depend on it.
+/// A neighbour calls the node if it points at the node or the node may court it. The answer does not depend on
+/// what `witness` was before.
 ///
-/// Cost: if the node's pointer is null, a look at the neighbours from `place` on, then at those before
-/// `place`, up to the first caller. The call stores this caller's index in `place`.
-pub fn is_enabled(net: &NetState, rules: RuleSet, v: Node, place: &mut u16) -> bool
+/// Cost: a look at the node and its target. If the pointer is null, a look at the neighbours from the caller
+/// that was found last on, then at those before it, up to the first caller.
+pub fn is_enabled(net: &NetState, rules: RuleSet, v: Node, witness: &mut Witness) -> bool
     requires { IsTrue (present net.now.state.network v) }
-    ensures { result ≡ is_some (table.rule_at (table_of rules) net.now.state v) }
+    ensures value { result ≡ is_some (table.rule_at (table_of rules) net.now.state v) }
+    ensures rests { RestsOn (table_of rules) net.now.state v witness.new.node }
 {
     match rules {
-        RuleSet::Hh => hsu_huang::is_enabled(net, v, place),
-        RuleSet::Manne => manne::is_enabled(net, v, place),
+        RuleSet::Hh => hsu_huang::is_enabled(net, v, witness),
+        RuleSet::Manne => manne::is_enabled(net, v, witness),
     }
 }
 
@@ -48,6 +51,7 @@ pub(crate) fn first_caller(net: &NetState, rules: RuleSet, row: &[Node], v: Node
     requires { All (λ w. IsTrue (present net.now.state.network w)) row.now }
     ensures some { is_some result ≡ list_any (calls_by rules net.now.state v) row.now }
     ensures inside { IfSome result (λ at. at < length row.now) }
+    ensures calls { IfSome result (λ at. IsTrue (calls_by rules net.now.state v (slice_index_or row.now at 0))) }
 {
     match rules {
         RuleSet::Hh => hsu_huang::first_caller(net, row, v),
