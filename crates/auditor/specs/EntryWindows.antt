@@ -44,11 +44,10 @@ pub record IsStateAfter (bytes : List ℕ) (last : Option ℕ) (rules : RuleSet)
   pub ends : EndsAt last end.count rest
   pub state : s ≡ end.moment.state
 
--- The bytes are the transcript of a run whose last entry has this number; the entry asked for has a greater
--- one.
-pub record HasTooFew (bytes : List ℕ) (last : Option ℕ) (asked entries : ℕ) : Type 0 where
-  pub last_is : last ≡ Some asked
-  pub fewer : entries < asked
+-- The bytes are the transcript of a run whose last entry is `entries`; entry `number` would come after it.
+pub record HasTooFew (bytes : List ℕ) (last : Option ℕ) (number entries : ℕ) : Type 0 where
+  pub last_is : last ≡ Some number
+  pub fewer : entries < number
   pub rules : RuleSet
   pub opening : Opening
   pub log : List LogPart
@@ -56,27 +55,27 @@ pub record HasTooFew (bytes : List ℕ) (last : Option ℕ) (asked entries : ℕ
   pub transcript : IsTranscript bytes rules opening log end
   pub entries_are : entries ≡ end.count
 
--- The bytes begin with a base whose number is greater than that of the entry asked for.
-pub record HasDroppedEntry (bytes : List ℕ) (last : Option ℕ) (asked base : ℕ) : Type 0 where
-  pub last_is : last ≡ Some asked
-  pub fewer : asked < base
+-- The bytes begin with base `base`, and entry `number` came before it.
+pub record HasDroppedEntry (bytes : List ℕ) (last : Option ℕ) (number base : ℕ) : Type 0 where
+  pub last_is : last ≡ Some number
+  pub fewer : number < base
   pub rules : RuleSet
   pub end : NumberedMoment
   pub rest : List ℕ
   pub follows : BeginsWithTranscript bytes rules [] end rest
   pub base_is : base ≡ end.count
 
--- an entry was asked for that comes after this many entries
+-- no entry is named, or the named one comes after this many entries
 abbrev pub IsAskedBeyond : Option ℕ → ℕ → Type 0
 IsAskedBeyond None count = Unit {0}
 IsAskedBeyond (Some last) count = count < last
 
--- a damaged base that is read: at the start of the bytes, or before the entry that was asked for
+-- a damaged base that is read: at the start of the bytes, or before the named entry
 abbrev pub base_looked_at : {X Y : Type 0} → Option ℕ → (Y → ℕ) → X ⊎ Y → Type 0
 base_looked_at last count (inl start) = Unit {0}
 base_looked_at last count (inr ends) = IsAskedBeyond last (count ends)
 
--- the damage is in the opening, or comes after fewer entries than were asked for
+-- the damage is in the opening, or in a line up to the named entry
 abbrev pub IsDamageWithin : (bytes : List ℕ) → Option ℕ → (d : AuditFault) → IsDamage bytes d → Type 0
 IsDamageWithin bytes last BadHeader damage = Unit {0}
 IsDamageWithin bytes last (NotALine line) damage = IsAskedBeyond last damage.at.end.count
@@ -95,8 +94,8 @@ pub record IsMetDamage (bytes : List ℕ) (last : Option ℕ) (damage : AuditFau
 abbrev pub IsReplayFault : List ℕ → Option ℕ → ReplayFault → Type 0
 IsReplayFault bytes last (Judged Memory) = Unit {0}
 IsReplayFault bytes last (Judged damage) = IsMetDamage bytes last damage
-IsReplayFault bytes last (TooFew asked entries) = HasTooFew bytes last asked entries
-IsReplayFault bytes last (Forgotten asked base) = HasDroppedEntry bytes last asked base
+IsReplayFault bytes last (TooFew number entries) = HasTooFew bytes last number entries
+IsReplayFault bytes last (Forgotten number base) = HasDroppedEntry bytes last number base
 
 -- the bytes begin with an opening for these rules and this many names, and the rest follows the opening
 pub record IsOpened (bytes : List ℕ) (rules : RuleSet) (size : ℕ) (begun : EpochStart) (p : Position) (rest : List ℕ) : Type 0 where

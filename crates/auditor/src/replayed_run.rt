@@ -24,10 +24,10 @@ pub struct ReplayedRun {
 pub enum ReplayFault {
     /// A line up to the entry is damaged, or memory ran out.
     Judged(AuditFault),
-    /// The bytes are the transcript of a run, but its last entry has a smaller number than was asked for.
-    TooFew { asked: u32, entries: u32 },
-    /// The bytes begin with a base that has a greater number than was asked for.
-    Forgotten { asked: u32, base: u32 },
+    /// The bytes are the transcript of a run that ends before entry `number`.
+    TooFew { number: u32, entries: u32 },
+    /// The bytes begin with a base after entry `number`.
+    Forgotten { number: u32, base: u32 },
 }
 
 // Whether entry `last` comes after entry `entries`; always if `last` is `None`.
@@ -42,7 +42,7 @@ fn falls_short(entries: u32, last: Option<u32>) -> bool
 
 // The number `last`, if it is below `entries`.
 fn forgotten(entries: u32, last: Option<u32>) -> Option<u32>
-    ensures { MatchOption result (IsAskedWithin last entries) (λ asked. (last ≡ Some asked) × (asked < entries)) }
+    ensures { MatchOption result (IsAskedWithin last entries) (λ number. (last ≡ Some number) × (number < entries)) }
 {
     match last {
         Some(number) if number < entries => Some(number),
@@ -52,11 +52,11 @@ fn forgotten(entries: u32, last: Option<u32>) -> Option<u32>
 
 fn finish(replay: TranscriptCursor, last: Option<u32>) -> Result<ReplayedRun, ReplayFault>
     ensures reached { IfOk result (λ reached. (reached.rules ≡ replay.rules) × (reached.judge ≡ replay.audit.state) × IsLongEnough last replay.audit.number) }
-    ensures few { IfErr result (λ fault. (asked : ℕ) × (fault ≡ TooFew asked replay.audit.number) × (last ≡ Some asked) × (replay.audit.number < asked)) }
+    ensures few { IfErr result (λ fault. (number : ℕ) × (fault ≡ TooFew number replay.audit.number) × (last ≡ Some number) × (replay.audit.number < number)) }
 {
     let entries = replay.audit.number();
     match last {
-        Some(asked) if entries < asked => Err(ReplayFault::TooFew { asked, entries }),
+        Some(number) if entries < number => Err(ReplayFault::TooFew { number, entries }),
         _ => Ok(ReplayedRun {
             rules: replay.rules,
             judge: replay.audit.into_judge(),
@@ -87,8 +87,8 @@ pub fn state_after(
         Err(fault) => return Err(ReplayFault::Judged(fault)),
     };
     let base = replay.audit.number();
-    if let Some(asked) = forgotten(base, last) {
-        return Err(ReplayFault::Forgotten { asked, base });
+    if let Some(number) = forgotten(base, last) {
+        return Err(ReplayFault::Forgotten { number, base });
     }
     while !rest.is_empty() && falls_short(replay.audit.number(), last) {
         match replay.advance_whole(alloc, rest) {

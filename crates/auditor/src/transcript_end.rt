@@ -7,7 +7,7 @@ ghost use Rattle.auditor.specs.TranscriptEnds.{IsTranscriptEnd, MayGoOn, summary
 use crate::transcript_cursor::TranscriptCursor;
 use crate::{AuditFault, Summary};
 use net_state::NetState;
-use rule_machine::RuleSet;
+use rule_machine::{MAX_EDGES, MAX_NAME, RuleSet};
 
 /// Where the run of a transcript ends: all that a run needs to go on from there.
 #[derive(Drop)]
@@ -46,8 +46,8 @@ impl TranscriptCursor {
         let number = audit.number();
         let spent = audit.spent();
         let net = audit.into_judge().into_net();
-        // Gives the prover the limits of nodes and edges.
-        let _ = (net.nodes(), net.edges());
+        prove!(net.nodes() <= MAX_NAME);
+        prove!(net.edges() <= MAX_EDGES);
         TranscriptEnd {
             rules,
             summary,

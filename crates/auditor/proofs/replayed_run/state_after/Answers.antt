@@ -8,8 +8,8 @@ pub returns-in-Some-clause-fault : goal.returns-in-Some-clause-fault
 returns-in-Some-clause-fault c =
     let replay = c.in-Ok.begun.0 in
     let base = c.number-base.ensures in
-    subst (λ (n : ℕ). HasDroppedEntry c.args.bytes.now c.args.last c.in-Some.asked n) (sym base)
-    (forgotten_fault c.args.bytes.now replay.rules replay.size replay.begun replay.audit c.in-Ok.begun.1.now c.args.last c.in-Some.asked c.in-Ok.ensures.begins.opened c.in-Some.ensures.0 (subst (λ (n : ℕ). c.in-Some.asked < n) base c.in-Some.ensures.1))
+    subst (λ (n : ℕ). HasDroppedEntry c.args.bytes.now c.args.last c.in-Some.number n) (sym base)
+    (forgotten_fault c.args.bytes.now replay.rules replay.size replay.begun replay.audit c.in-Ok.begun.1.now c.args.last c.in-Some.number c.in-Ok.ensures.begins.opened c.in-Some.ensures.0 (subst (λ (n : ℕ). c.in-Some.number < n) base c.in-Some.ensures.1))
 
 pub loop-replay-init : goal.loop-replay-init
 loop-replay-init c =
