@@ -11,7 +11,7 @@ ghost use Rattle.cli_args.specs.Mistake.{IsMistake};
 ghost use Rattle.cli_args.specs.TaskWords.{ParsesTo, AreRoamers, AreWorkers, ResumedStorm, Storm, ParsesAsTask, ParsesOnFile, ReadsFrom, WantsResumeStorm, WantsStorm, audit_file_words, audit_words, epochs_file_words, epochs_words, has_from, picture_words, resume_storm_words, resume_words, run_words, usual_resumed_storm};
 
 use crate::command::{command, strict_command};
-use crate::task::{Task, asked, input, is_given};
+use crate::task::{Task, input, is_given, task_of};
 use clap::error::ErrorKind;
 use clap::{ArgMatches, Error};
 use std::alloc::Global;
@@ -59,8 +59,8 @@ fn mistake<'a, S: AsStr>(
 /// The error is clap's: the words are bad, or memory ran out. For good words that ask for a task, the only
 /// error is that memory ran out.
 pub fn read_words<'a, S: AsStr>(alloc: Global, words: &'a [S]) -> Result<Request<'a>, Error>
-    ensures answers { IfOk result (λ asked. ParsesTo (map S.text words.entry.now) asked.task) }
-    ensures input { IfOk result (λ asked. ReadsFrom (map S.text words.entry.now) asked.task asked.file) }
+    ensures answers { IfOk result (λ request. ParsesTo (map S.text words.entry.now) request.task) }
+    ensures input { IfOk result (λ request. ReadsFrom (map S.text words.entry.now) request.task request.file) }
     ensures mistake { IfErr result (λ e. IsMistake (kind_of e)) }
     ensures wanted { IfErr result (λ e. (task : Task) → ParsesAsTask (map S.text words.entry.now) task → kind_of e ≡ OutOfMemory) }
     ensures wanted_storm { IfErr result (λ e. (storm : Storm) → WantsStorm (map S.text words.entry.now) storm → kind_of e ≡ OutOfMemory) }
@@ -68,7 +68,7 @@ pub fn read_words<'a, S: AsStr>(alloc: Global, words: &'a [S]) -> Result<Request
 {
     let mut command = command(alloc)?;
     match command.try_get_matches_from_mut(words) {
-        Ok(found) => match asked(alloc, &found) {
+        Ok(found) => match task_of(alloc, &found) {
             Ok(Some(task)) => Ok(Request {
                 task,
                 file: input(&found),

@@ -88,7 +88,7 @@ fn load<'a>(alloc: Global, storm: &ArgMatches<'a>) -> Result<Option<StormLoad<'a
 fn fresh_storm<'a>(alloc: Global, storm: &ArgMatches<'a>) -> Result<Option<Task<'a>>, Error>
     requires { IsLeftOut (codes "from") (rows_of (found_of storm.now)) }
     ensures read { IfOk result (λ read. MatchOption read
-        ((asked : Storm) → HoldsStorm (rows_of (found_of storm.now)) asked → ⊥)
+        ((words : Storm) → HoldsStorm (rows_of (found_of storm.now)) words → ⊥)
         (λ task. MatchesTask (Some (codes "storm", rows_of (found_of storm.now))) task)) }
     ensures memory { IfErr result (λ e. kind_of e ≡ OutOfMemory) }
 {
@@ -116,7 +116,7 @@ fn resumed_storm<'a>(
 ) -> Result<Option<Task<'a>>, Error>
     requires { first_of (codes "from") (rows_of (found_of storm.now)) ≡ Some from.now }
     ensures read { IfOk result (λ read. MatchOption read
-        ((asked : ResumedStorm) → HoldsResumeStorm (rows_of (found_of storm.now)) asked → ⊥)
+        ((words : ResumedStorm) → HoldsResumeStorm (rows_of (found_of storm.now)) words → ⊥)
         (λ task. MatchesTask (Some (codes "storm", rows_of (found_of storm.now))) task)) }
     ensures memory { IfErr result (λ e. kind_of e ≡ OutOfMemory) }
 {

@@ -151,7 +151,7 @@ fn picture_task<'a>(picture: &ArgMatches<'a>) -> Option<Task<'a>>
 }
 
 /// The task that clap's result asks for; `None` if it asks for none. Fails only if memory runs out.
-pub(crate) fn asked<'a>(alloc: Global, found: &ArgMatches<'a>) -> Result<Option<Task<'a>>, Error>
+pub(crate) fn task_of<'a>(alloc: Global, found: &ArgMatches<'a>) -> Result<Option<Task<'a>>, Error>
     ensures read { IfOk result (λ read. MatchOption read
         (HoldsNothing (subcommand_rows_of found.now))
         (λ task. MatchesTask (subcommand_rows_of found.now) task)) }

@@ -1,7 +1,7 @@
 use Rattle.cli_args.proofs.Prelude.{◌≡◌, rules, ap, Some, ◌∙◌, codes, Text, found_of, rows_of, subcommand_rows_of, out-ArgMatches}
 use Rattle.cli_args.proofs.FoundMatches.{parts_are, run_asked, picture_asked}
 use Rattle.cli_args.proofs.StormReadings.{storm_asked}
-use Rattle.cli_args.proofs.task.asked.Goals as goal
+use Rattle.cli_args.proofs.task.task_of.Goals as goal
 
 pub returns-then-eq-clause-read : goal.returns-then-eq-clause-read
 returns-then-eq-clause-read c =
