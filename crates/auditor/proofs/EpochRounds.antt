@@ -75,7 +75,7 @@ quiet_count start log s event reply it quiet c =
     let t = table_of it.rules in
     record {
       sound = subst IsState same c.sound;
-      on = subst (λ u. AreOnBut t u it.enabled it.due) same c.on;
+      on = subst (λ u. AreOnBut t u it.enabled it.due it.witnesses.items) same c.on;
       none_due = c.none_due;
       counted = counted_next t start log s event reply it.counter it.counter
           (unchanged t s event reply it.counter (λ moves told. true≢false (sym (ap changes told) ∙ quiet)) (λ told. true≢false (sym (ap changes told) ∙ quiet)) c.counted.enabled) c.counted;
