@@ -19,7 +19,7 @@ use std::alloc::Global;
 ///
 /// A name is due from the call before an entry, which may enable or disable a rule there, to the call after it.
 /// `removals` has the names that left the set since the last step.
-/// `witnesses` has for each name the node on which its rules depend.
+/// `witnesses` has the witness of each name.
 #[derive(Drop)]
 pub struct JudgedRounds {
     rules: RuleSet,

@@ -41,7 +41,7 @@ pub(crate) fn rule_at(net: &NetState, v: Node) -> Option<Act>
     }
 }
 
-/// Whether a rule is enabled, and on which node that depends.
+/// Whether a rule is enabled; stores the node's witness.
 pub(crate) fn is_enabled(net: &NetState, v: Node, witness: &mut Witness) -> bool
     requires { IsTrue (present net.now.state.network v) }
     ensures value { result ≡ is_some (table.rule_at manne net.now.state v) }

@@ -27,7 +27,7 @@ pub fn rule_at(net: &NetState, rules: RuleSet, v: Node) -> Option<Act>
     }
 }
 
-/// Whether a rule is enabled at a node; stores in `witness` on which node that depends.
+/// Whether a rule is enabled at a node; stores the node's witness.
 ///
 /// A neighbour calls the node if it points at the node or the node may court it. The answer does not depend on
 /// what `witness` was before.

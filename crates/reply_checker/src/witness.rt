@@ -5,7 +5,7 @@ ghost use Rattle.reply_checker.specs.Witnesses.{depends_on};
 
 use rule_machine::Node;
 
-/// The node on whose registers it depends whether a rule is enabled at a node, beside the node's own.
+/// The one other node whose registers decide whether a rule is enabled at a node.
 ///
 /// This is the target of the node's pointer. If the pointer is null, it is the neighbour that was found to call
 /// the node, or the node itself if its flag alone decides. If there is none, it depends on all neighbours.
