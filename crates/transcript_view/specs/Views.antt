@@ -32,21 +32,21 @@ pub record IsTableOf (bytes : List ℕ) (text : List ℕ) : Type 0 where
 abbrev pub IsPicture : List ℕ → Option ℕ → View → Type 0
 IsPicture bytes last (Text text) = IsPictureOf bytes last text.items
 IsPicture bytes last (Refused damage) = IsMetDamage bytes last damage
-IsPicture bytes last (TooFew asked entries) = HasTooFew bytes last asked entries
-IsPicture bytes last (Forgotten asked base) = HasDroppedEntry bytes last asked base
+IsPicture bytes last (TooFew number entries) = HasTooFew bytes last number entries
+IsPicture bytes last (Forgotten number base) = HasDroppedEntry bytes last number base
 
 -- the view is the table of epochs, or names the bytes' damage
 abbrev pub IsEpochTable : List ℕ → View → Type 0
 IsEpochTable bytes (Text text) = IsTableOf bytes text.items
 IsEpochTable bytes (Refused damage) = IsDamage bytes damage
-IsEpochTable bytes (TooFew asked entries) = ⊥
-IsEpochTable bytes (Forgotten asked base) = ⊥
+IsEpochTable bytes (TooFew number entries) = ⊥
+IsEpochTable bytes (Forgotten number base) = ⊥
 
 -- Two views are equal in their texts, damages or numbers. `one_view` proves that bytes have at most one
 -- picture and one table.
 abbrev pub SameView : View → View → Type 0
 SameView (Text text) (Text also) = text.items ≡ also.items
 SameView (Refused damage) (Refused other) = damage ≡ other
-SameView (TooFew asked entries) (TooFew wanted count) = (asked ≡ wanted) × (entries ≡ count)
-SameView (Forgotten asked base) (Forgotten wanted other) = (asked ≡ wanted) × (base ≡ other)
+SameView (TooFew number entries) (TooFew also count) = (number ≡ also) × (entries ≡ count)
+SameView (Forgotten number base) (Forgotten also other) = (number ≡ also) × (base ≡ other)
 SameView view other = ⊥

@@ -8,8 +8,8 @@
 //! match view_picture(alloc, &bytes, Some(3))? {
 //!     View::Text(graph) => ..,                                      // after the third entry
 //!     View::Refused(damage) => ..,
-//!     View::TooFew { asked, entries } => ..,
-//!     View::Forgotten { asked, base } => ..,
+//!     View::TooFew { number, entries } => ..,
+//!     View::Forgotten { number, base } => ..,
 //! }
 //! ```
 #![tactic(auto)]

@@ -16,10 +16,10 @@ pub enum View {
     Text(Vec<u8>),
     /// The bytes are no transcript of a run; this is their first damage.
     Refused(AuditFault),
-    /// The transcript has fewer entries than were asked for.
-    TooFew { asked: u32, entries: u32 },
-    /// The transcript begins with a base after the entry that was asked for.
-    Forgotten { asked: u32, base: u32 },
+    /// The transcript ends before entry `number`.
+    TooFew { number: u32, entries: u32 },
+    /// The transcript begins with a base after entry `number`.
+    Forgotten { number: u32, base: u32 },
 }
 
 /// The picture of the state after entry `last`, or after all entries if `last` is `None`.
@@ -37,8 +37,8 @@ pub fn view_picture(alloc: Global, bytes: &[u8], last: Option<u32>) -> Result<Vi
         }
         Err(ReplayFault::Judged(AuditFault::Memory)) => Err(AllocError),
         Err(ReplayFault::Judged(damage)) => Ok(View::Refused(damage)),
-        Err(ReplayFault::TooFew { asked, entries }) => Ok(View::TooFew { asked, entries }),
-        Err(ReplayFault::Forgotten { asked, base }) => Ok(View::Forgotten { asked, base }),
+        Err(ReplayFault::TooFew { number, entries }) => Ok(View::TooFew { number, entries }),
+        Err(ReplayFault::Forgotten { number, base }) => Ok(View::Forgotten { number, base }),
     }
 }
 
