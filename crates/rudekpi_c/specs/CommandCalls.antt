@@ -37,7 +37,7 @@ step_named chosen = Step (map item_named chosen)
 
 -- the numbers gave this command, or are out of range; or memory ran out for numbers in range
 abbrev pub IsAsked : {E : Type 0} → Result (Option Command) E → Command → Type 0
-IsAsked (Ok asked) command = SomeIff asked (IsCommand command) command
+IsAsked (Ok found) command = SomeIff found (IsCommand command) command
 IsAsked (Err want) command = IsCommand command
 
 -- the reply to a command that is carried out here: the machine's, if it is one event
@@ -75,7 +75,7 @@ IsCommandOutcome t limit command status number reply before after =
     ⊎ ((status ≡ 3) × CommandBegins t limit command before after × (number ≡ number_left command after.count) × (reply ≡ Accepted))
 
 -- the command was given to the session, which keeps the reply; the session's line count is unchanged
-pub record IsCommandAnswer (command : Command) (status : ℕ) (told : CallResult) (old new : Option Session) : Type 0 where
+pub record IsCommandAnswer (command : Command) (status : ℕ) (outcome : CallResult) (old new : Option Session) : Type 0 where
   pub s : Session
   pub t : Session
   pub was : old ≡ Some s
@@ -86,12 +86,12 @@ pub record IsCommandAnswer (command : Command) (status : ℕ) (told : CallResult
   pub follows : IsCommandOutcome (table_of (rules_of s)) (limit_of s) command status t.answer.seq t.answer.reply (stands s) after
   pub silent : status ≡ 0 → Silences (table_of (rules_of s)) command (stands s).moment.state after.moment.state
   pub stands_is : stands t ≡ with_text_if t.keeps after
-  pub told_is : told ≡ told_of t.answer.seq t.answer.reply
+  pub told_is : outcome ≡ told_of t.answer.seq t.answer.reply
 
 -- 5: the numbers are out of range, and nothing was done; 4: there was no session; else the command was given
 -- to the session
 abbrev pub AnswersCommand : Command → ℕ → CallResult → Option Session → Option Session → Type 0
-AnswersCommand command status told old new =
-    ((IsCommand command → ⊥) × (status ≡ 5) × (told ≡ untold) × (new ≡ old))
-    ⊎ (IsCommand command × IsNobody status old new × (told ≡ untold))
-    ⊎ (IsCommand command × IsCommandAnswer command status told old new)
+AnswersCommand command status outcome old new =
+    ((IsCommand command → ⊥) × (status ≡ 5) × (outcome ≡ untold) × (new ≡ old))
+    ⊎ (IsCommand command × IsNobody status old new × (outcome ≡ untold))
+    ⊎ (IsCommand command × IsCommandAnswer command status outcome old new)

@@ -83,14 +83,14 @@ fault_status (PointsAtStranger w) = 0
 -- The answer. DONE (0) without a fault: the machine's move at the node in every state that shows this, and some
 -- state does. A fault: no state does, and the first fault is told; DONE with the repair, else NOT_SHOWN (9).
 -- BAD_ARGUMENT (5): a number is out of range. There is no other status.
-pub record AnswersLocal (rules : ℕ) (own : RawRecord) (around : List RawRecord) (status : ℕ) (told : LocalAnswer) : Type 0 where
-  pub done : status ≡ 0 → told.fault ≡ 0 → (set : RuleSet) × (rules_given rules ≡ Some set) × ((s : State) → ShowsAtNode s (record_named own) (map record_named around) → told ≡ move_told own (move_at (table_of set) s own.node))
-  pub shown : status ≡ 0 → told.fault ≡ 0 → IsShown (record_named own) (map record_named around)
-  pub never : told.fault ≢ 0 → IsNeverShown (record_named own) (map record_named around)
-  pub fault : told.fault ≢ 0 → IfSome (first_fault (record_named own) (map record_named around)) (λ why. (told ≡ fault_told own why) × (status ≡ fault_status why))
-  pub named : status ≡ 9 → told.fault ≢ 0
+pub record AnswersLocal (rules : ℕ) (own : RawRecord) (around : List RawRecord) (status : ℕ) (answer : LocalAnswer) : Type 0 where
+  pub done : status ≡ 0 → answer.fault ≡ 0 → (set : RuleSet) × (rules_given rules ≡ Some set) × ((s : State) → ShowsAtNode s (record_named own) (map record_named around) → answer ≡ move_told own (move_at (table_of set) s own.node))
+  pub shown : status ≡ 0 → answer.fault ≡ 0 → IsShown (record_named own) (map record_named around)
+  pub never : answer.fault ≢ 0 → IsNeverShown (record_named own) (map record_named around)
+  pub fault : answer.fault ≢ 0 → IfSome (first_fault (record_named own) (map record_named around)) (λ why. (answer ≡ fault_told own why) × (status ≡ fault_status why))
+  pub named : status ≡ 9 → answer.fault ≢ 0
   pub bad : status ≡ 5 → rules ≤ 1 → AreNames own → All AreNames around → ⊥
-  pub nothing : status ≡ 5 → told ≡ faulty 0 0
+  pub nothing : status ≡ 5 → answer ≡ faulty 0 0
   pub only : status ≢ 0 → status ≢ 9 → status ≡ 5
 
 -- DONE: whether the machine may move the node so, in every state that shows this.

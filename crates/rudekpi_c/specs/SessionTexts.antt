@@ -81,7 +81,7 @@ HasRunEnd (Some s) = IsAtRunEnd s
 abbrev pub IsSessionCall : Option Session → Option Session → Type 0
 IsSessionCall old new =
     ((line : List ℕ) × (was : ℕ) × (status : ℕ) × (number : ℕ) × AnswersFeed line was status number old new)
-    ⊎ ((command : Command) × (status : ℕ) × (told : CallResult) × AnswersCommand command status told old new)
+    ⊎ ((command : Command) × (status : ℕ) × (outcome : CallResult) × AnswersCommand command status outcome old new)
     ⊎ ((status : ℕ) × (ended : ℕ) × AnswersRenumber status ended old new)
     ⊎ ((status : ℕ) × AnswersCounting status old new)
     ⊎ ((keeps : Bool) × (status : ℕ) × AnswersKeep keeps status old new)

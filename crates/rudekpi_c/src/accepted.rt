@@ -40,8 +40,8 @@ pub fn session_texts_are_accepted()
         → (end : TranscriptEnd) × (is : IsTranscriptEnd bytes end) × HasTranscript [] bytes is.opening new × HasTranscript [] [] (Based (size_of is.opening) (base_of end.number (end_moment end).moment)) new }
     ensures line { (line : List ℕ) (was status number : ℕ) (old new : Option Session)
         → AnswersFeed line was status number old new → StaysTranscript old new }
-    ensures command { (command : Command) (status : ℕ) (told : CallResult) (old new : Option Session)
-        → AnswersCommand command status told old new → StaysTranscript old new }
+    ensures command { (command : Command) (status : ℕ) (outcome : CallResult) (old new : Option Session)
+        → AnswersCommand command status outcome old new → StaysTranscript old new }
     ensures counted { (status : ℕ) (old new : Option Session)
         → AnswersCounting status old new → StaysTranscript old new }
     ensures kept { (status : ℕ) (old new : Option Session)
@@ -68,7 +68,7 @@ pub fn session_texts_begin_anew()
         → HasTranscript ended first opening kept → HasRunEnd kept }
     ensures goes_on { (old new : Option Session)
         → IsSessionCall old new → HasRunEnd old → HasRunEnd new }
-    ensures anew { (told : CallResult) (s : Session) (new : Option Session)
-        → AnswersCommand Checkpoint 0 told (Some s) new → HasRunEnd (Some s) → s.keeps ≡ true → (stands s).text ≡ []
+    ensures anew { (outcome : CallResult) (s : Session) (new : Option Session)
+        → AnswersCommand Checkpoint 0 outcome (Some s) new → HasRunEnd (Some s) → s.keeps ≡ true → (stands s).text ≡ []
         → HasTranscript [] [] (base_opening (stands s).count s) new }
 {}

@@ -5,7 +5,7 @@ ghost use Rattle.rudekpi_c.specs.AuditCalls.{AuditBegun, AuditEnded, AuditFed, f
 
 use crate::audit_slot::AuditSlot;
 use crate::status::{DAMAGED, DONE, MEMORY, NO_SESSION, ok_or, some_or};
-use crate::verdict::{Verdict, told, unsaid};
+use crate::verdict::{Verdict, unsaid, verdict_of};
 use auditor::{AuditFault, PieceAudit};
 use std::alloc::Global;
 
@@ -48,7 +48,7 @@ pub extern "C" fn rudekpi_audit_finish(
 {
     *verdict = unsaid();
     let audit = some_or!(slot.take(alloc), NO_SESSION);
-    *verdict = told(Box::into_inner(audit).finish(alloc));
+    *verdict = verdict_of(Box::into_inner(audit).finish(alloc));
     DONE
 }
 

@@ -35,22 +35,22 @@ impl CallResult {
     pub(crate) fn of(answer: &Answer) -> CallResult
         ensures { result ≡ told_of answer.now.seq answer.now.reply }
     {
-        let told = CallResult {
+        let entry = CallResult {
             entry: answer.seq,
             ..CallResult::nothing()
         };
         match &answer.reply {
             Reply::Refused(refusal) => CallResult {
                 refusal: refusal.number(),
-                ..told
+                ..entry
             },
             Reply::Shown(target) => CallResult {
                 target: number_told(*target),
-                ..told
+                ..entry
             },
             reply => CallResult {
                 rows: count_rows(reply),
-                ..told
+                ..entry
             },
         }
     }

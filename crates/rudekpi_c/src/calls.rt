@@ -32,24 +32,24 @@ fn status_of(done: Result<(), RecordFault>, reply: &Reply) -> u32
 }
 
 // Returns 5 if there is no command: a number is out of range.
-fn call(alloc: Global, slot: &mut Slot, command: Option<Command>, told: &mut CallResult) -> u32
-    ensures { (asked : Command) → SomeIff command (IsCommand asked) asked → AnswersCommand asked result told.new slot.old.handle.value slot.new.handle.value }
+fn call(alloc: Global, slot: &mut Slot, command: Option<Command>, outcome: &mut CallResult) -> u32
+    ensures { (c : Command) → SomeIff command (IsCommand c) c → AnswersCommand c result outcome.new slot.old.handle.value slot.new.handle.value }
 {
-    *told = CallResult::nothing();
+    *outcome = CallResult::nothing();
     let command = some_or!(command, BAD_ARGUMENT);
     let mut session = some_or!(slot.take(alloc), NO_SESSION);
     let done = session.follow(alloc, &command);
     let status = status_of(done, &session.answer.reply);
-    *told = CallResult::of(&session.answer);
+    *outcome = CallResult::of(&session.answer);
     slot.put_back(session);
     status
 }
 
 // Answers that memory ran out for an event: drops the last answer and returns 3.
-fn fail_memory(alloc: Global, slot: &mut Slot, told: &mut CallResult) -> u32
-    ensures { (event : Event) → IsCommand (Tell event) → AnswersCommand (Tell event) result told.new slot.old.handle.value slot.new.handle.value }
+fn fail_memory(alloc: Global, slot: &mut Slot, outcome: &mut CallResult) -> u32
+    ensures { (event : Event) → IsCommand (Tell event) → AnswersCommand (Tell event) result outcome.new slot.old.handle.value slot.new.handle.value }
 {
-    *told = CallResult::nothing();
+    *outcome = CallResult::nothing();
     let mut session = some_or!(slot.take(alloc), NO_SESSION);
     session.answer = unanswered(0);
     slot.put_back(session);
@@ -66,11 +66,11 @@ pub extern "C" fn rudekpi_link(
     slot: &mut Slot,
     a: u32,
     b: u32,
-    told: &mut CallResult,
+    outcome: &mut CallResult,
 ) -> u32
-    ensures { AnswersCommand (Tell (Link a b)) result told.new slot.old.handle.value slot.new.handle.value }
+    ensures { AnswersCommand (Tell (Link a b)) result outcome.new slot.old.handle.value slot.new.handle.value }
 {
-    call(alloc, slot, request::link(a, b), told)
+    call(alloc, slot, request::link(a, b), outcome)
 }
 
 /// Removes an edge.
@@ -80,11 +80,11 @@ pub extern "C" fn rudekpi_unlink(
     slot: &mut Slot,
     a: u32,
     b: u32,
-    told: &mut CallResult,
+    outcome: &mut CallResult,
 ) -> u32
-    ensures { AnswersCommand (Tell (Unlink a b)) result told.new slot.old.handle.value slot.new.handle.value }
+    ensures { AnswersCommand (Tell (Unlink a b)) result outcome.new slot.old.handle.value slot.new.handle.value }
 {
-    call(alloc, slot, request::unlink(a, b), told)
+    call(alloc, slot, request::unlink(a, b), outcome)
 }
 
 /// Makes a name present.
@@ -93,11 +93,11 @@ pub extern "C" fn rudekpi_join(
     alloc: Global,
     slot: &mut Slot,
     node: u32,
-    told: &mut CallResult,
+    outcome: &mut CallResult,
 ) -> u32
-    ensures { AnswersCommand (Tell (Join node)) result told.new slot.old.handle.value slot.new.handle.value }
+    ensures { AnswersCommand (Tell (Join node)) result outcome.new slot.old.handle.value slot.new.handle.value }
 {
-    call(alloc, slot, request::join(node), told)
+    call(alloc, slot, request::join(node), outcome)
 }
 
 /// Makes a node absent, and removes its edges.
@@ -106,11 +106,11 @@ pub extern "C" fn rudekpi_leave(
     alloc: Global,
     slot: &mut Slot,
     node: u32,
-    told: &mut CallResult,
+    outcome: &mut CallResult,
 ) -> u32
-    ensures { AnswersCommand (Tell (Leave node)) result told.new slot.old.handle.value slot.new.handle.value }
+    ensures { AnswersCommand (Tell (Leave node)) result outcome.new slot.old.handle.value slot.new.handle.value }
 {
-    call(alloc, slot, request::leave(node), told)
+    call(alloc, slot, request::leave(node), outcome)
 }
 
 /// Writes a node's pointer; 0 is null.
@@ -120,11 +120,11 @@ pub extern "C" fn rudekpi_point(
     slot: &mut Slot,
     node: u32,
     target: u32,
-    told: &mut CallResult,
+    outcome: &mut CallResult,
 ) -> u32
-    ensures { AnswersCommand (Tell (Point node (optional_name target))) result told.new slot.old.handle.value slot.new.handle.value }
+    ensures { AnswersCommand (Tell (Point node (optional_name target))) result outcome.new slot.old.handle.value slot.new.handle.value }
 {
-    call(alloc, slot, request::point(node, target), told)
+    call(alloc, slot, request::point(node, target), outcome)
 }
 
 /// Writes a node's flag.
@@ -134,11 +134,11 @@ pub extern "C" fn rudekpi_flag(
     slot: &mut Slot,
     node: u32,
     value: bool,
-    told: &mut CallResult,
+    outcome: &mut CallResult,
 ) -> u32
-    ensures { AnswersCommand (Tell (Flag node value)) result told.new slot.old.handle.value slot.new.handle.value }
+    ensures { AnswersCommand (Tell (Flag node value)) result outcome.new slot.old.handle.value slot.new.handle.value }
 {
-    call(alloc, slot, request::flag(node, value), told)
+    call(alloc, slot, request::flag(node, value), outcome)
 }
 
 /// Moves the chosen nodes at once; returns 5 also for more than 65,535 items.
@@ -147,13 +147,13 @@ pub extern "C" fn rudekpi_step(
     alloc: Global,
     slot: &mut Slot,
     items: &[StepItem],
-    told: &mut CallResult,
+    outcome: &mut CallResult,
 ) -> u32
-    ensures { AnswersCommand (Tell (step_named items.now)) result told.new slot.old.handle.value slot.new.handle.value }
+    ensures { AnswersCommand (Tell (step_named items.now)) result outcome.new slot.old.handle.value slot.new.handle.value }
 {
     match request::step(alloc, items) {
-        Ok(command) => call(alloc, slot, command, told),
-        Err(_) => fail_memory(alloc, slot, told),
+        Ok(command) => call(alloc, slot, command, outcome),
+        Err(_) => fail_memory(alloc, slot, outcome),
     }
 }
 
@@ -163,27 +163,27 @@ pub extern "C" fn rudekpi_show(
     alloc: Global,
     slot: &mut Slot,
     node: u32,
-    told: &mut CallResult,
+    outcome: &mut CallResult,
 ) -> u32
-    ensures { AnswersCommand (Tell (Show node)) result told.new slot.old.handle.value slot.new.handle.value }
+    ensures { AnswersCommand (Tell (Show node)) result outcome.new slot.old.handle.value slot.new.handle.value }
 {
-    call(alloc, slot, request::show(node), told)
+    call(alloc, slot, request::show(node), outcome)
 }
 
 /// Asks for the enabled nodes.
 #[unsafe(no_mangle)]
-pub extern "C" fn rudekpi_enabled(alloc: Global, slot: &mut Slot, told: &mut CallResult) -> u32
-    ensures { AnswersCommand (Tell Enabled) result told.new slot.old.handle.value slot.new.handle.value }
+pub extern "C" fn rudekpi_enabled(alloc: Global, slot: &mut Slot, outcome: &mut CallResult) -> u32
+    ensures { AnswersCommand (Tell Enabled) result outcome.new slot.old.handle.value slot.new.handle.value }
 {
-    call(alloc, slot, Some(Command::Tell(Event::Enabled)), told)
+    call(alloc, slot, Some(Command::Tell(Event::Enabled)), outcome)
 }
 
 /// Asks for the matching.
 #[unsafe(no_mangle)]
-pub extern "C" fn rudekpi_pairs(alloc: Global, slot: &mut Slot, told: &mut CallResult) -> u32
-    ensures { AnswersCommand (Tell Matching) result told.new slot.old.handle.value slot.new.handle.value }
+pub extern "C" fn rudekpi_pairs(alloc: Global, slot: &mut Slot, outcome: &mut CallResult) -> u32
+    ensures { AnswersCommand (Tell Matching) result outcome.new slot.old.handle.value slot.new.handle.value }
 {
-    call(alloc, slot, Some(Command::Tell(Event::Matching)), told)
+    call(alloc, slot, Some(Command::Tell(Event::Matching)), outcome)
 }
 
 /// Asks for the counts, which are all 0 if there is no answer.
@@ -192,12 +192,12 @@ pub extern "C" fn rudekpi_status(
     alloc: Global,
     slot: &mut Slot,
     counts: &mut StatusCounts,
-    told: &mut CallResult,
+    outcome: &mut CallResult,
 ) -> u32
-    ensures called { AnswersCommand (Tell Status) result told.new slot.old.handle.value slot.new.handle.value }
+    ensures called { AnswersCommand (Tell Status) result outcome.new slot.old.handle.value slot.new.handle.value }
     ensures counted { AnswersCounts result counts.new slot.old.handle.value }
 {
-    let status = call(alloc, slot, Some(Command::Tell(Event::Status)), told);
+    let status = call(alloc, slot, Some(Command::Tell(Event::Status)), outcome);
     *counts = counted_of(alloc, slot);
     status
 }
@@ -209,11 +209,11 @@ pub extern "C" fn rudekpi_drive(
     slot: &mut Slot,
     seed: u64,
     count: u32,
-    told: &mut CallResult,
+    outcome: &mut CallResult,
 ) -> u32
-    ensures { AnswersCommand (Drive (record { seed = seed; count = count })) result told.new slot.old.handle.value slot.new.handle.value }
+    ensures { AnswersCommand (Drive (record { seed = seed; count = count })) result outcome.new slot.old.handle.value slot.new.handle.value }
 {
-    call(alloc, slot, request::drive(seed, count), told)
+    call(alloc, slot, request::drive(seed, count), outcome)
 }
 
 /// Makes up to `count` seeded faults; returns 5 for more than 1,000,000.
@@ -223,17 +223,21 @@ pub extern "C" fn rudekpi_scramble(
     slot: &mut Slot,
     seed: u64,
     count: u32,
-    told: &mut CallResult,
+    outcome: &mut CallResult,
 ) -> u32
-    ensures { AnswersCommand (Scramble (record { seed = seed; count = count })) result told.new slot.old.handle.value slot.new.handle.value }
+    ensures { AnswersCommand (Scramble (record { seed = seed; count = count })) result outcome.new slot.old.handle.value slot.new.handle.value }
 {
-    call(alloc, slot, request::scramble(seed, count), told)
+    call(alloc, slot, request::scramble(seed, count), outcome)
 }
 
 /// Adds the lines of a base.
 #[unsafe(no_mangle)]
-pub extern "C" fn rudekpi_checkpoint(alloc: Global, slot: &mut Slot, told: &mut CallResult) -> u32
-    ensures { AnswersCommand Checkpoint result told.new slot.old.handle.value slot.new.handle.value }
+pub extern "C" fn rudekpi_checkpoint(
+    alloc: Global,
+    slot: &mut Slot,
+    outcome: &mut CallResult,
+) -> u32
+    ensures { AnswersCommand Checkpoint result outcome.new slot.old.handle.value slot.new.handle.value }
 {
-    call(alloc, slot, Some(Command::Checkpoint), told)
+    call(alloc, slot, Some(Command::Checkpoint), outcome)
 }

@@ -15,12 +15,12 @@ use script_text::Command;
 use std::alloc::Global;
 
 // Returns 5 if there is no event: a number is out of range.
-fn cost_of(alloc: Global, slot: &mut Slot, asked: Option<Command>, cost: &mut u32) -> u32
-    ensures costed { (event : Event) → SomeIff asked (IsCommand (Tell event)) (Tell event) → AnswersCost event result cost.new slot.old.handle.value }
+fn cost_of(alloc: Global, slot: &mut Slot, command: Option<Command>, cost: &mut u32) -> u32
+    ensures costed { (event : Event) → SomeIff command (IsCommand (Tell event)) (Tell event) → AnswersCost event result cost.new slot.old.handle.value }
     ensures kept { slot.new.handle.value ≡ slot.old.handle.value }
 {
     *cost = 0;
-    let Some(Command::Tell(event)) = asked else {
+    let Some(Command::Tell(event)) = command else {
         return BAD_ARGUMENT;
     };
     let session = some_or!(slot.take(alloc), NO_SESSION);

@@ -4,7 +4,7 @@ ghost use Rattle.std.specs.Prelude.{◌≡◌, ◌≤◌, MatchOption};
 ghost use Rattle.rudekpi_c.specs.JoinCalls.{AuditJoined, said_by};
 
 use crate::status::{BAD_ARGUMENT, DONE, some_or};
-use crate::verdict::{Verdict, told};
+use crate::verdict::{Verdict, verdict_of};
 use audit_parts::join;
 use auditor::{AuditFault, Summary};
 
@@ -49,6 +49,6 @@ pub extern "C" fn rudekpi_audit_join(verdict: &mut Verdict, lines: u64, next: &V
     let first = some_or!(found_in(*verdict), BAD_ARGUMENT);
     let second = some_or!(found_in(*next), BAD_ARGUMENT);
     let both = some_or!(join(first, lines, second), BAD_ARGUMENT);
-    *verdict = told(both);
+    *verdict = verdict_of(both);
     DONE
 }

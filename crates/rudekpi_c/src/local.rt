@@ -209,11 +209,11 @@ pub extern "C" fn rudekpi_may_move(
     *may = false;
     let set = some_or!(rules_given(rules), BAD_ARGUMENT);
     let act = some_or!(rule_given(rule), BAD_ARGUMENT);
-    let wish = some_or!(target_given(target), BAD_ARGUMENT);
+    let target = some_or!(target_given(target), BAD_ARGUMENT);
     if !is_named(own) || !are_named(around) {
         return BAD_ARGUMENT;
     }
-    match may_move_of(set, &own.as_record(), around, act, wish) {
+    match may_move_of(set, &own.as_record(), around, act, target) {
         Ok(allowed) => {
             *may = allowed;
             DONE

@@ -65,15 +65,15 @@ pub(crate) fn put_names(out: &mut [u32], nodes: &[Node]) -> usize
 fn reach_of(
     alloc: Global,
     slot: &mut Slot,
-    asked: Option<Command>,
+    command: Option<Command>,
     out: &mut [u32],
     count: &mut usize,
 ) -> u32
-    ensures reached { (event : Event) → SomeIff asked (IsCommand (Tell event)) (Tell event) → AnswersReach event result count.new out.old out.new slot.old.handle.value }
+    ensures reached { (event : Event) → SomeIff command (IsCommand (Tell event)) (Tell event) → AnswersReach event result count.new out.old out.new slot.old.handle.value }
     ensures kept { slot.new.handle.value ≡ slot.old.handle.value }
 {
     *count = 0;
-    let Some(Command::Tell(event)) = asked else {
+    let Some(Command::Tell(event)) = command else {
         return BAD_ARGUMENT;
     };
     let session = some_or!(slot.take(alloc), NO_SESSION);

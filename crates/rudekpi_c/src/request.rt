@@ -13,7 +13,7 @@ use rule_machine::{Choice, Event, Item, MAX_ITEMS, Node, Want};
 use script_text::{Command, MAX_TURNS, Turns};
 use std::alloc::Global;
 
-/// An item of a step: a node, and the wished target of its pointer, or 0 for no wish.
+/// An item of a step: a node, and its pointer's new target, or 0 for any that its rule allows.
 #[repr(C)]
 #[derive(Clone, Copy)]
 pub struct StepItem {

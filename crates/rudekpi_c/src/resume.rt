@@ -12,7 +12,7 @@ use crate::follow::unanswered;
 use crate::session::{Machine, Session};
 use crate::slot::Slot;
 use crate::status::{DONE, MEMORY, ok_or};
-use crate::verdict::{Verdict, told};
+use crate::verdict::{Verdict, verdict_of};
 use auditor::{TranscriptEnd, end_of_bytes};
 use rule_engine::Net;
 use rule_machine::{RuleSet, Rules, Want};
@@ -75,11 +75,11 @@ pub extern "C" fn rudekpi_session_resume(
     let end = match end_of_bytes(alloc, bytes) {
         Ok(end) => end,
         Err(fault) => {
-            *verdict = told(Err(fault));
+            *verdict = verdict_of(Err(fault));
             return status_of(Err(fault));
         }
     };
-    *verdict = told(Ok(end.summary));
+    *verdict = verdict_of(Ok(end.summary));
     let session = ok_or!(Session::resume(alloc, end), MEMORY);
     let session = ok_or!(Box::new(alloc, session), MEMORY);
     slot.put(session);

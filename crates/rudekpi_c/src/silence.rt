@@ -29,12 +29,12 @@ impl Session {
     }
 }
 
-fn silent_cost(alloc: Global, slot: &mut Slot, asked: Option<Command>, cost: &mut u32) -> u32
-    ensures answers { (event : Event) → SomeIff asked (IsCommand (Tell event)) (Tell event) → AnswersSilentCost event result cost.new slot.old.handle.value }
+fn silent_cost(alloc: Global, slot: &mut Slot, command: Option<Command>, cost: &mut u32) -> u32
+    ensures answers { (event : Event) → SomeIff command (IsCommand (Tell event)) (Tell event) → AnswersSilentCost event result cost.new slot.old.handle.value }
     ensures kept { slot.new.handle.value ≡ slot.old.handle.value }
 {
     *cost = 0;
-    let Some(Command::Tell(event)) = asked else {
+    let Some(Command::Tell(event)) = command else {
         return BAD_ARGUMENT;
     };
     let session = some_or!(slot.take(alloc), NO_SESSION);

@@ -61,7 +61,7 @@ pub(crate) fn unsaid() -> Verdict
     told_refused(6, 0)
 }
 
-pub(crate) fn told(found: Result<Summary, AuditFault>) -> Verdict
+pub(crate) fn verdict_of(found: Result<Summary, AuditFault>) -> Verdict
     ensures { result ≡ audit_verdict found }
 {
     match found {
@@ -81,5 +81,5 @@ pub(crate) fn told(found: Result<Summary, AuditFault>) -> Verdict
 pub extern "C" fn rudekpi_audit(alloc: Global, bytes: &[u8], verdict: &mut Verdict)
     ensures { JudgedAs bytes.now verdict.new }
 {
-    *verdict = told(audit_bytes(alloc, bytes));
+    *verdict = verdict_of(audit_bytes(alloc, bytes));
 }
