@@ -1,10 +1,10 @@
 -- A published publishes a run of the rules, and stays a published after the next entry and after a checkpoint. It is one
 -- before any entry.
-use Rattle.locked_net.proofs.Prelude.{◌≡◌, ◌+◌, ◌<◌, ◌≤◌, ℕ, [], ◌∷◌, ◌++◌, length, Some, None, Result, Ok, Err, OnOk, OnErr, inl, refl, sym, ap, ap₂, ◌∙◌, subst, arith, Event, State, RuleTable, Entry, Run, Base, Moment, beginning_with, dropped, IsTable, BoardShape, IsRun, BoardView, StartsAt, IsStart, BeginsIn, JournalView, kept_of, RetainedLog, checkpointed, kept_with, last_number, moment_in, next_entry, whole, empty_log_with, kept_from, max_entries, log_over, IsPublishedJournal}
+use Rattle.locked_net.proofs.Prelude.{◌≡◌, ◌+◌, ◌<◌, ◌≤◌, ℕ, [], ◌∷◌, ◌++◌, length, Option, Some, None, Result, Ok, Err, OnOk, OnErr, inl, refl, sym, ap, ap₂, ◌∙◌, subst, arith, Event, RuleTable, Entry, Run, Base, Moment, dropped, IsTable, BoardShape, IsRun, BoardView, StartsAt, JournalView, kept_of, RetainedLog, checkpointed, kept_with, last_number, moment_in, next_entry, max_entries, log_over, IsPublishedJournal, node_count, names, IfSome, base_of, IsRetainedRun}
 use Rattle.locked_net.proofs.RetainedParts.{above_len, recorded_is_log, recorded_size, recorded_above, checkpoint_above}
-use Rattle.std.proofs.Common.{false}
-use Rattle.rule_machine.specs.State.{IsState, flag}
-use Rattle.step_log.specs.BaseStarts.{resumed_log}
+use Rattle.std.proofs.lemmas.List.{length-map}
+use Rattle.machine_laws.specs.ChargeWords.{charge_bound}
+use Rattle.rule_machine.specs.Base.{BeginsAt, node_record_at}
 use Rattle.locked_net.specs.WholeLogs.{IsWholeLog}
 
 -- the next number is within the limit
@@ -69,27 +69,28 @@ published_kept t held after board (Err fault) published told same = subst (λ (h
 
 -- ---- before any entry
 
--- a log from the opening state
-pub opening_is_whole : (t : RuleTable) (nodes present limit : ℕ) → nodes ≤ 65535 → limit ≤ max_entries → IsWholeLog t (whole (empty_log_with nodes present limit))
-opening_is_whole t nodes present limit small within =
-    let none : dropped (whole (empty_log_with nodes present limit)).base ≤ limit = omega arith in
-    record { start = beginning_with nodes present; begins = refl; run = refl; size = small; room = none; limit = within }
+-- a whole log may begin where what is kept begins
+starts : (t : RuleTable) (weight size first : ℕ) (base : Option Base) (start : Moment) → BeginsAt t (charge_bound weight) size first base start → StartsAt t size first base start
+starts t weight size first None start begins = begins
+starts t weight size first (Some base) start begins = record { is_state = begins.is_state; size_is = begins.size_is; lines = begins.lines; unflagged = begins.unflagged }
 
--- from a base
-pub based_is_whole : (t : RuleTable) (weight size limit : ℕ) (s : State) (base : Base) → BeginsIn t weight size base s → size ≤ 65535 → base.number ≤ limit → limit ≤ max_entries → IsWholeLog t (kept_from s base limit)
-based_is_whole t weight size limit s base begins small room within =
-    let same : s.network.size ≡ size = begins.size_is in
-    let starts : IsStart t s.network.size base (record { state = s; spent = base.spent }) = record { is_state = begins.is_state; size_is = refl; lines = begins.lines; unflagged = begins.unflagged } in
-    let few : last_number (kept_from s base limit) ≤ limit = omega (arith, room) in
-    record { start = record { state = s; spent = base.spent }; begins = starts; run = refl; size = omega (arith, small, same); room = few; limit = within }
+-- what is kept is a whole log, which begins at the base, if any
+pub kept_is_whole : (t : RuleTable) (weight : ℕ) (kept : RetainedLog) → IsRetainedRun t weight kept → IsWholeLog t kept
+kept_is_whole t weight kept run =
+    record { start = run.start; begins = starts t weight kept.state.network.size kept.present kept.base run.start run.begins; run = run.run; size = run.size; room = run.room; limit = run.limit }
 
--- where a network goes on
-pub resumed_is_whole : (t : RuleTable) (number limit : ℕ) (m : Moment) → IsState m.state → (t.flags ≡ false → (v : ℕ) → flag m.state v ≡ false) → m.state.network.size ≤ 65535 → number ≤ max_entries → IsWholeLog t (resumed_log m number limit)
-resumed_is_whole t number limit m good unflagged small few =
-    let log : RetainedLog = resumed_log m number limit in
-    let room : last_number log ≤ log.limit = grind arith in
-    let within : log.limit ≤ max_entries = grind (arith, few) in
-    record { start = m; begins = record { is_state = good; size_is = refl; lines = refl; unflagged = unflagged }; run = refl; size = small; room = room; limit = within }
+-- a base without an entry after it is that of the network
+pub base_is_of_net : (t : RuleTable) (weight : ℕ) (kept : RetainedLog) (base : Base) → IsRetainedRun t weight kept → kept.entries ≡ [] → kept.base ≡ Some base → base ≡ base_of base.number (moment_in kept)
+base_is_of_net t weight kept base run none is =
+    let begins = subst (λ (b : Option Base). BeginsAt t (charge_bound weight) kept.state.network.size kept.present b run.start) is run.begins in
+    let still : moment_in kept ≡ run.start = subst (λ es. Run t run.start es (moment_in kept)) none run.run in
+    begins.lines ∙ ap (base_of base.number) (sym still)
+
+-- so it has the network's nodes
+pub base_counts : (t : RuleTable) (weight : ℕ) (kept : RetainedLog) (base : Option Base) → IsRetainedRun t weight kept → kept.entries ≡ [] → kept.base ≡ base → IfSome base (λ b. node_count kept.state.network ≡ length b.nodes)
+base_counts t weight kept None run none is = tt
+base_counts t weight kept (Some base) run none is =
+    sym (ap (λ (b : Base). length b.nodes) (base_is_of_net t weight kept base run none is) ∙ length-map (names kept.state.network) (node_record_at kept.state))
 
 -- no entry is a run from the beginning of such a log
 pub none_is_run : (t : RuleTable) (kept : RetainedLog) → IsWholeLog t kept → kept.entries ≡ [] → IsRun t (record { places = kept.state.network.size + 1; present = kept.present; base = kept.base }) []

@@ -1,12 +1,7 @@
 //! A network that many callers share.
 
-ghost use Rattle.std.specs.Prelude.{◌≡◌, ◌<◌, ◌≤◌, ◌↔◌, ℕ, false, None, Some, length, max, min, IfOk, IfErr, IsErrOf, OnOk};
-ghost use Rattle.rule_machine.specs.Base.{base_of};
+ghost use Rattle.std.specs.Prelude.{◌≡◌, ◌≤◌, [], None, min, IfOk, IfErr, OnOk};
 ghost use Rattle.rule_machine.specs.Network.{node_count};
-ghost use Rattle.rule_machine.specs.State.{State, flag};
-ghost use Rattle.rule_engine.specs.PreparedEvents.{net_moment};
-ghost use Rattle.step_log.specs.BaseStarts.{BeginsIn, ExplainsStartFault};
-ghost use Rattle.step_log.specs.declared.start_fault.StartFault.TheVariants.{LogFull};
 ghost use Rattle.keyed_lock.specs.Locks.{key_of};
 ghost use Rattle.locked_net.specs.PublishedJournals.{IsOfKey};
 ghost use Rattle.locked_net.specs.Receipts.{base_number};
@@ -15,15 +10,15 @@ ghost use Rattle.graph_store.specs.Fault.{nodes_fault, ExplainsGraphFault};
 
 use crate::net_key::{KeyInvariant, NetKey};
 use crate::published_journal::PublishedJournal;
-use crate::sharing::{copy_of, share, share_from};
+use crate::sharing::{copy_base, share};
 use crate::{BoardReader, Clerk, ReaderFault};
 use keyed_lock::{Hold, KeyedLock};
-use rule_engine::{BaseFault, GraphFault, Net, Rules};
-use rule_machine::{Base, MAX_NAME, Want};
+use rule_engine::{GraphFault, Rules};
+use rule_machine::{Base, Want};
 use snapshots::Note;
 use std::alloc::{AllocError, AllocFailed, Global};
 use std::sync::Wait;
-use step_log::{Journal, MAX_ENTRIES, StartFault};
+use step_log::{Journal, MAX_ENTRIES};
 
 /// A network under the rules `R` with its log, behind one lock, for callers in any threads.
 ///
@@ -102,58 +97,27 @@ impl<R: Rules> LockedNet<R> {
         }
     }
 
-    /// The network at the moment of a base, with the names 1 to `size`. Entries are numbered after the base.
-    /// `limit` and the faults are those of `Journal::from_base`: `LogFull` exactly if the base's number is
-    /// above the limit; otherwise `NoStart` with the demand that the base breaks, or with `Memory` if memory
-    /// runs out.
-    /// Costs what `Journal::from_base` costs, a copy of the base that is freed, and a board.
-    pub fn from_base<W: Wait>(
+    /// The network of a journal without entries. Its log begins where the journal does, with the journal's base.
+    /// `limit` is the journal's. As many nodes are present as when the journal began. If the journal counts
+    /// rounds, the network counts on.
+    /// `AllocError` if memory runs out. Costs what a checkpoint costs, if the journal has a base, and a board.
+    pub fn of_journal<W: Wait>(
         alloc: Global,
         rt: &W,
-        size: u32,
-        limit: u32,
-        base: Base,
-    ) -> Result<LockedNet<R>, StartFault>
-        ensures nodes { IfOk result (λ net. name_count_of net ≡ size) }
-        ensures present { IfOk result (λ net. first_nodes_of net ≡ length base.nodes) }
-        ensures limit { IfOk result (λ net. log_limit_of net ≡ min limit max_entries) }
-        ensures beginning { IfOk result (λ net. beginning_of net ≡ Some base) }
-        ensures begins { OnOk result ((s : State) × BeginsIn R.table R.NODE_WEIGHT size base s) }
-        ensures room { OnOk result (base.number ≤ min limit max_entries) }
-        ensures full { IsErrOf result LogFull ↔ (min limit max_entries < base.number) }
-        ensures fault { IfErr result (λ fault. ExplainsStartFault R.table R.NODE_WEIGHT size (min limit max_entries) base fault) }
-    {
-        let copy = copy_of(&base);
-        let journal = Journal::from_base(alloc, size, limit, base)?;
-        match share_from(alloc, rt, journal, limit.min(MAX_ENTRIES), copy) {
-            Ok(net) => Ok(net),
-            Err(_) => Err(StartFault::NoStart(BaseFault::Memory)),
-        }
-    }
-
-    /// A network that goes on after `number` entries: it begins at the base of its moment.
-    /// The limit counts all numbers. A limit above 16,777,216 counts as 16,777,216, and a limit below
-    /// `number` as `number`.
-    /// `AllocError` if memory runs out. Costs twice what a checkpoint costs, and a board.
-    pub fn of_net<W: Wait>(
-        alloc: Global,
-        rt: &W,
-        net: Net<R>,
-        number: u32,
+        journal: Journal<R>,
         limit: u32,
     ) -> Result<LockedNet<R>, Want>
-        requires few { number ≤ max_entries }
-        ensures nodes { IfOk result (λ made. name_count_of made ≡ net.state.network.size) }
-        ensures present { IfOk result (λ made. first_nodes_of made ≡ node_count net.state.network) }
-        ensures limit { IfOk result (λ made. log_limit_of made ≡ max number (min limit max_entries)) }
-        ensures beginning { IfOk result (λ made. beginning_of made ≡ Some (base_of number (net_moment net))) }
+        requires none { journal.entries ≡ [] }
+        requires present { journal.present ≡ node_count journal.state.network }
+        requires limit { journal.limit ≡ limit }
+        ensures nodes { IfOk result (λ net. name_count_of net ≡ journal.state.network.size) }
+        ensures present { IfOk result (λ net. first_nodes_of net ≡ journal.present) }
+        ensures limit { IfOk result (λ net. log_limit_of net ≡ journal.limit) }
+        ensures beginning { IfOk result (λ net. beginning_of net ≡ journal.base) }
     {
-        let base = net.base(number)?;
-        let present = net.store().nodes();
-        prove!(net.store().capacity() <= MAX_NAME);
-        let journal = Journal::of_net(alloc, net, number, limit)?;
-        let limit = number.max(limit.min(MAX_ENTRIES));
-        share(alloc, rt, journal, present, limit, Some(base))
+        let base = copy_base(&journal)?;
+        let present = journal.net().store().nodes();
+        share(alloc, rt, journal, present, limit, base)
     }
 
     /// A new clerk, without receipts.

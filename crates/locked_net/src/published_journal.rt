@@ -74,7 +74,6 @@ impl<R: Rules> PublishedJournal<R> {
         present: u32,
         base: &Option<Base>,
     ) -> Result<PublishedJournal<R>, AllocError>
-        requires whole { IsWholeLog R.table (kept_of journal) }
         requires none { journal.entries ≡ [] }
         requires present { journal.present ≡ present }
         requires base { journal.base ≡ base.now }

@@ -1,11 +1,7 @@
 //! How a network begins.
 
-ghost use Rattle.std.specs.Prelude.{◌≡◌, ◌≤◌, [], length, IfOk, IfSome};
-ghost use Rattle.step_log.specs.BaseStarts.{BeginsIn, kept_from};
-ghost use Rattle.step_log.specs.Log.{max_entries};
-ghost use Rattle.step_log.specs.JournalViews.{kept_of};
+ghost use Rattle.std.specs.Prelude.{◌≡◌, [], length, IfOk, IfSome};
 ghost use Rattle.locked_net.specs.Nets.{beginning_of, first_nodes_of, log_limit_of, name_count_of};
-ghost use Rattle.locked_net.specs.WholeLogs.{IsWholeLog};
 
 use crate::LockedNet;
 use crate::net::lock;
@@ -26,7 +22,6 @@ pub(crate) fn share<R: Rules, W: Wait>(
     limit: u32,
     beginning: Option<Base>,
 ) -> Result<LockedNet<R>, AllocError>
-    requires whole { IsWholeLog R.table (kept_of journal) }
     requires none { journal.entries ≡ [] }
     requires present { journal.present ≡ present }
     requires limit { journal.limit ≡ limit }
@@ -47,32 +42,13 @@ pub(crate) fn share<R: Rules, W: Wait>(
     lock(alloc, rt, published, &key)
 }
 
-/// The network of a journal that begins at the base.
-pub(crate) fn share_from<R: Rules, W: Wait>(
-    alloc: Global,
-    rt: &W,
-    journal: Journal<R>,
-    limit: u32,
-    base: Result<Base, AllocError>,
-) -> Result<LockedNet<R>, AllocError>
-    requires kept { IfOk base (λ b. kept_of journal ≡ kept_from journal.state b limit) }
-    requires begins { IfOk base (λ b. BeginsIn R.table R.NODE_WEIGHT journal.state.network.size b journal.state) }
-    requires room { IfOk base (λ b. b.number ≤ limit) }
-    requires within { limit ≤ max_entries }
-    ensures { IfOk result (λ net. (name_count_of net ≡ journal.state.network.size) × (first_nodes_of net ≡ journal.present) × (log_limit_of net ≡ limit) × (beginning_of net ≡ journal.base)) }
+/// A copy of the base of a journal without entries, if it has a base: its network is as the base says.
+pub(crate) fn copy_base<R: Rules>(journal: &Journal<R>) -> Result<Option<Base>, AllocError>
+    requires { journal.now.entries ≡ [] }
+    ensures { IfOk result (λ copy. copy ≡ journal.now.base) }
 {
-    let base = base?;
-    let present = journal.net().store().nodes();
-    share(alloc, rt, journal, present, limit, Some(base))
-}
-
-pub(crate) fn copy_of(base: &Base) -> Result<Base, AllocError>
-    ensures { IfOk result (λ copy. copy ≡ base.now) }
-{
-    Ok(Base {
-        number: base.number,
-        spent: base.spent,
-        nodes: base.nodes.clone()?,
-        edges: base.edges.clone()?,
-    })
+    match journal.base() {
+        Some(number) => Ok(Some(journal.net().base(number)?)),
+        None => Ok(None),
+    }
 }

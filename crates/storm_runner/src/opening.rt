@@ -14,6 +14,7 @@ use rule_machine::{Rules, Want};
 use script_run::{Options, Restart};
 use std::alloc::{AllocError, Global};
 use std::sync::Wait;
+use step_log::Journal;
 
 /// The network of the options, or the one that goes on after a run with these options.
 pub(crate) fn net_for<R: Rules, W: Wait>(
@@ -71,5 +72,6 @@ fn resumed_net<R: Rules, W: Wait>(
         ..
     } = restart;
     let net = Net::of_state(alloc, net, spent)?;
-    LockedNet::of_net(alloc, rt, net, number, limit)
+    let journal = Journal::of_net(alloc, net, number, limit)?;
+    LockedNet::of_journal(alloc, rt, journal, limit)
 }
