@@ -40,5 +40,5 @@ ActsOnInput (Some file) task input old new before after status = ActsOnFile file
 -- the task is done; or bad words, or a lack of memory for reading them, are reported, and nothing is written
 -- to the writer
 abbrev pub ActsOnWords : Result Request Error → List ℕ → WrittenBytes → WrittenBytes → WrittenBytes → WriterState → ℕ → Type 0
-ActsOnWords (Ok asked) input old new before after status = ActsOnInput asked.file asked.task input old new before after status
+ActsOnWords (Ok request) input old new before after status = ActsOnInput request.file request.task input old new before after status
 ActsOnWords (Err e) input old new before after status = Keeps old new × TellsMistake (kind_of e) before after × (status ≡ words_status (kind_of e))

@@ -22,7 +22,7 @@ FailsToOpen files _ = ⊥
 -- texts. The auditor accepts what was written, and counts the entries of the kept log; if the writer failed, it
 -- accepts a text that begins so.
 abbrev pub EndsStorm : OptionsView → ℕ → WrittenBytes → WrittenBytes → Result Unit StormFault → Type 0
-EndsStorm asked scripts old new ended = (texts : List WrittenBytes) × (length texts ≡ scripts) × IsStormOutcome asked texts old new ended × WritesAccepted (IsAcceptedLog asked) (opening_start asked) texts old new ended
+EndsStorm options scripts old new ended = (texts : List WrittenBytes) × (length texts ≡ scripts) × IsStormOutcome options texts old new ended × WritesAccepted (IsAcceptedLog options) (opening_start options) texts old new ended
 
 -- after a failed read a line may name the file that is not read
 abbrev pub MayAddNote : Result Unit StormFault → WriterState → WriterState → Type 0
@@ -36,8 +36,8 @@ TellsStormEnd ended before after status =
 
 -- the storm ended, and its end was reported
 abbrev pub PlaysStorm : OptionsView → ℕ → WrittenBytes → WrittenBytes → WrittenBytes → WriterState → ℕ → Type 0
-PlaysStorm asked scripts old new before after status =
-    (ended : Result Unit StormFault) × EndsStorm asked scripts old new ended × TellsStormEnd ended before after status
+PlaysStorm options scripts old new before after status =
+    (ended : Result Unit StormFault) × EndsStorm options scripts old new ended × TellsStormEnd ended before after status
 
 -- the same of a storm that goes on, whose kept log is accepted so
 abbrev pub EndsStormFrom : (RetainedLog → Type 0) → RestartView → ℕ → WrittenBytes → WrittenBytes → Result Unit StormFault → Type 0

@@ -20,15 +20,15 @@ use Rattle.storm_runner.specs.declared.fault.StormFault.TheVariants.{TooManyScri
 
 -- the auditor accepts the text of a kept log, and counts its entries
 abbrev pub IsAcceptedLog : OptionsView → RetainedLog → Type 0
-IsAcceptedLog asked kept = (c : Summary) × IsAccepted (text_of asked kept) c × (c.entries ≡ length kept.entries)
+IsAcceptedLog options kept = (c : Summary) × IsAccepted (text_of options kept) c × (c.entries ≡ length kept.entries)
 
 -- The auditor accepts the text of the kept log. If the log begins with the base of this end, as it does until a
 -- checkpoint drops that base, the auditor also accepts the first text with that of the log appended, and counts
 -- the entries of both.
 abbrev pub IsAcceptedLogBehind : List ℕ → TranscriptEnd → OptionsView → RetainedLog → Type 0
-IsAcceptedLogBehind first end asked kept =
-    IsAcceptedLog asked kept × (kept.base ≡ Some (base_of end.number (end_moment end).moment)
-    → (c : Summary) × IsAccepted (first ++ text_of asked kept) c × (c.entries ≡ end.summary.entries + length kept.entries))
+IsAcceptedLogBehind first end options kept =
+    IsAcceptedLog options kept × (kept.base ≡ Some (base_of end.number (end_moment end).moment)
+    → (c : Summary) × IsAccepted (first ++ text_of options kept) c × (c.entries ≡ end.summary.entries + length kept.entries))
 
 -- The scripts are those of the texts, and they leave a kept log with this fault. It is accepted so, and P holds of
 -- its text.
@@ -42,7 +42,7 @@ abbrev pub WritesAccepted : (RetainedLog → Type 0) → StormStart → List (Op
 WritesAccepted Accepted at texts old new (Ok done) = LeavesAccepted Accepted at texts None (Appends old new)
 WritesAccepted Accepted at texts old new (Err LogFull) = LeavesAccepted Accepted at texts (Some call.LogFull) (Appends old new)
 WritesAccepted Accepted at texts old new (Err Behind) =
-    (front : ℕ) × (seen : ℕ) × LeavesAccepted Accepted at texts (Some (call.Behind front seen)) (Appends old new)
+    (front : ℕ) × (greatest : ℕ) × LeavesAccepted Accepted at texts (Some (call.Behind front greatest)) (Appends old new)
 WritesAccepted Accepted at texts old new (Err Memory) =
     LeavesAccepted Accepted at texts (Some call.Memory) (Appends old new) ⊎ Keeps old new
 WritesAccepted Accepted at texts old new (Err Write) =

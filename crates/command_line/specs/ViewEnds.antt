@@ -19,13 +19,13 @@ use Rattle.command_line.specs.VerdictText.{verdict_line}
 
 -- the line of a missing entry, with its LF: the number asked for, and the number that there is
 abbrev pub missing_line : ℕ → List ℕ → ℕ → List ℕ → List ℕ
-missing_line asked told number end = codes "! no entry " ++ (number_text asked ++ told) ++ (number_text number ++ end)
+missing_line entry reason number end = codes "! no entry " ++ (number_text entry ++ reason) ++ (number_text number ++ end)
 
 abbrev pub too_few_line : ℕ → ℕ → List ℕ
-too_few_line asked entries = missing_line asked (codes ": the transcript has ") entries (codes " entries\n")
+too_few_line number entries = missing_line number (codes ": the transcript has ") entries (codes " entries\n")
 
 abbrev pub forgotten_line : ℕ → ℕ → List ℕ
-forgotten_line asked base = missing_line asked (codes ": the transcript begins behind entry ") base (codes "\n")
+forgotten_line number base = missing_line number (codes ": the transcript begins behind entry ") base (codes "\n")
 
 -- a fault is reported, and nothing is written to the writer
 abbrev pub TellsEarly : RunFault → WrittenBytes → WrittenBytes → WrittenBytes → WriterState → ℕ → Type 0
@@ -66,8 +66,8 @@ TellsMissing line old new before after status =
 abbrev pub TellsView : Result View InputFault → WrittenBytes → WrittenBytes → WrittenBytes → WriterState → ℕ → Type 0
 TellsView (Ok (Text text)) old new before after status = ShowsText text.items 0 old new before after status
 TellsView (Ok (Refused damage)) old new before after status = ShowsRefusal damage old new before after status
-TellsView (Ok (TooFew asked entries)) old new before after status = TellsMissing (too_few_line asked entries) old new before after status
-TellsView (Ok (Forgotten asked base)) old new before after status = TellsMissing (forgotten_line asked base) old new before after status
+TellsView (Ok (TooFew number entries)) old new before after status = TellsMissing (too_few_line number entries) old new before after status
+TellsView (Ok (Forgotten number base)) old new before after status = TellsMissing (forgotten_line number base) old new before after status
 TellsView (Err input.Read) old new before after status = TellsEarly run.Read old new before after status
 TellsView (Err input.Memory) old new before after status = TellsEarly run.Memory old new before after status
 

@@ -36,9 +36,9 @@ pub fn outcomes_are_accepted()
 /// what `storm_runner::storm` ensures, the others for `resume_storm`. By the last one also `cat FIRST STORM` is
 /// accepted, if the log begins with the base of the end of FIRST, that is, if no checkpoint has dropped entries.
 pub fn storms_are_accepted()
-    ensures storm { (asked : OptionsView) (texts : List (Option (List ℕ))) (old new : Option (List ℕ)) (result : Result Unit StormFault)
-        → asked.present ≤ asked.nodes → IsStormOutcome asked texts old new result
-        → WritesAccepted (IsAcceptedLog asked) (opening_start asked) texts old new result }
+    ensures storm { (options : OptionsView) (texts : List (Option (List ℕ))) (old new : Option (List ℕ)) (result : Result Unit StormFault)
+        → options.present ≤ options.nodes → IsStormOutcome options texts old new result
+        → WritesAccepted (IsAcceptedLog options) (opening_start options) texts old new result }
     ensures resumed { (from : RestartView) (texts : List (Option (List ℕ))) (old new : Option (List ℕ)) (result : Result Unit StormFault)
         → IsResumedStorm from texts old new result → WritesAccepted (IsAcceptedLog (options_at from)) (resumed_start from) texts old new result }
     ensures joined { (first : List ℕ) (end : TranscriptEnd) (from : RestartView) (texts : List (Option (List ℕ))) (old new : Option (List ℕ)) (result : Result Unit StormFault)

@@ -116,19 +116,19 @@ fn play_files<'a, Out: Write, T: Threads + Wait + Sync + Files>(
 pub fn play_storm<Out: Write, Faults: Write, T: Threads + Wait + Sync + Files>(
     rt: &T,
     alloc: Global,
-    asked: StormWords<'_>,
+    words: StormWords<'_>,
     writer: &mut FailStopWriter<Out>,
     faults: &mut FailStopWriter<Faults>,
 ) -> u8
-    ensures played { DoesStorm (storm_of asked.entry) (present_at_start asked.entry.nodes asked.entry.present)
+    ensures played { DoesStorm (storm_of words.entry) (present_at_start words.entry.nodes words.entry.present)
         (Out.contents writer.old.writer) (Out.contents writer.new.writer) (Faults.contents faults.old.writer) (heard Faults.contents faults.new) result }
     ensures status { IsStatus result }
 {
-    let network = network_options(asked.rules, asked.nodes, asked.present, asked.workers);
+    let network = network_options(words.rules, words.nodes, words.present, words.workers);
     let Some(options) = network else {
         return tell_bad_present(faults);
     };
-    let options = options.with_roam(u32::from(asked.roamers), asked.turns);
-    let (ended, unread) = play_files(rt, alloc, &options, &asked.scripts, writer);
+    let options = options.with_roam(u32::from(words.roamers), words.turns);
+    let (ended, unread) = play_files(rt, alloc, &options, &words.scripts, writer);
     tell_end(alloc, ended, unread, faults)
 }

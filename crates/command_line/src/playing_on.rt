@@ -44,11 +44,11 @@ fn play_files_from<'a, Out: Write, T: Threads + Wait + Sync + Files>(
     }
 }
 
-fn storm_restart(end: TranscriptEnd, asked: &ResumeStormWords<'_>) -> Restart
+fn storm_restart(end: TranscriptEnd, words: &ResumeStormWords<'_>) -> Restart
     requires { MayGoOn end }
-    ensures { restart_of result ≡ storm_from end (resumed_storm_of asked.now) }
+    ensures { restart_of result ≡ storm_from end (resumed_storm_of words.now) }
 {
-    restart_at(end, asked.workers).with_roam(u32::from(asked.roamers), asked.turns)
+    restart_at(end, words.workers).with_roam(u32::from(words.roamers), words.turns)
 }
 
 fn resume_storm_opened<
@@ -59,23 +59,23 @@ fn resume_storm_opened<
 >(
     rt: &T,
     alloc: Global,
-    asked: &ResumeStormWords<'_>,
+    words: &ResumeStormWords<'_>,
     opened: Opened,
     writer: &mut FailStopWriter<Out>,
     faults: &mut FailStopWriter<Faults>,
 ) -> u8
-    ensures resumed { StormsOpened (Opened.remaining opened) (resumed_storm_of asked.now) (Out.contents writer.old.writer) (Out.contents writer.new.writer)
+    ensures resumed { StormsOpened (Opened.remaining opened) (resumed_storm_of words.now) (Out.contents writer.old.writer) (Out.contents writer.new.writer)
         (Faults.contents faults.old.writer) (heard Faults.contents faults.new) result }
     ensures status { IsStatus result }
 {
     let mut why = None;
     match end_in(alloc, opened, &mut why) {
         Ok(end) => {
-            let restart = storm_restart(end, asked);
-            let (ended, unread) = play_files_from(rt, alloc, restart, &asked.scripts, writer);
+            let restart = storm_restart(end, words);
+            let (ended, unread) = play_files_from(rt, alloc, restart, &words.scripts, writer);
             tell_end(alloc, ended, unread, faults)
         }
-        Err(fault) => refuse_file(alloc, asked.from, fault, why, faults),
+        Err(fault) => refuse_file(alloc, words.from, fault, why, faults),
     }
 }
 
@@ -93,16 +93,16 @@ fn resume_storm_opened<
 pub fn resume_storm_file<Out: Write, Faults: Write, T: Threads + Wait + Sync + Files>(
     rt: &T,
     alloc: Global,
-    asked: ResumeStormWords<'_>,
+    words: ResumeStormWords<'_>,
     writer: &mut FailStopWriter<Out>,
     faults: &mut FailStopWriter<Faults>,
 ) -> u8
-    ensures resumed { ResumesStorm (resumed_storm_of asked.entry) (Out.contents writer.old.writer) (Out.contents writer.new.writer)
+    ensures resumed { ResumesStorm (resumed_storm_of words.entry) (Out.contents writer.old.writer) (Out.contents writer.new.writer)
         (Faults.contents faults.old.writer) (heard Faults.contents faults.new) result }
     ensures status { IsStatus result }
 {
-    match File::open(rt, asked.from) {
-        Ok(opened) => resume_storm_opened(rt, alloc, &asked, opened, writer, faults),
-        Err(error) => tell_unread(alloc, asked.from, Some(file_fault(error.kind())), faults),
+    match File::open(rt, words.from) {
+        Ok(opened) => resume_storm_opened(rt, alloc, &words, opened, writer, faults),
+        Err(error) => tell_unread(alloc, words.from, Some(file_fault(error.kind())), faults),
     }
 }

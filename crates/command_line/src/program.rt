@@ -177,7 +177,7 @@ fn run_network<In: Read, Out: Write, Faults: Write, T: Threads + Wait + Sync>(
     ensures outcome { IfSome (In.remaining reader.old.reader) (λ script. MatchOption options
         (TellsBadPresent (Out.contents writer.old.writer) (Out.contents writer.new.writer)
         (Faults.contents faults.old.writer) (heard Faults.contents faults.new) result)
-        (λ asked. TellsOutcome asked.rules asked.nodes asked.present asked.limit script
+        (λ good. TellsOutcome good.rules good.nodes good.present good.limit script
         (Out.contents writer.old.writer) (Out.contents writer.new.writer)
         (Faults.contents faults.old.writer) (heard Faults.contents faults.new) result)) }
     ensures status { IsRunStatus result }
@@ -240,8 +240,8 @@ pub fn perform<In: Read, Out: Write, Faults: Write, T: Threads + Wait + Sync + F
         Task::Audit => check_transcript(alloc, reader, writer, faults),
         Task::Picture { entry } => draw(alloc, entry, reader, writer, faults),
         Task::Epochs => list_epochs(alloc, reader, writer, faults),
-        Task::Storm(asked) => play_storm(rt, alloc, asked, writer, faults),
-        Task::ResumeStorm(asked) => resume_storm_file(rt, alloc, asked, writer, faults),
+        Task::Storm(words) => play_storm(rt, alloc, words, writer, faults),
+        Task::ResumeStorm(words) => resume_storm_file(rt, alloc, words, writer, faults),
         Task::Show(text) => show(alloc, text, writer, faults),
     }
 }
@@ -307,10 +307,10 @@ pub fn start<S: AsStr, In: Read, Out: Write, Faults: Write, T: Threads + Wait + 
     writer: &mut FailStopWriter<Out>,
     faults: &mut FailStopWriter<Faults>,
 ) -> u8
-    ensures does { IfSome (In.remaining reader.old.reader) (λ input. (asked : Result Request Error)
-        × IfOk asked (λ good. ParsesTo (map S.text words.entry.now) good.task × ReadsFrom (map S.text words.entry.now) good.task good.file)
-        × IfErr asked (λ e. (task : Task) → ParsesAsTask (map S.text words.entry.now) task → kind_of e ≡ OutOfMemory)
-        × ActsOnWords asked input (Out.contents writer.old.writer) (Out.contents writer.new.writer)
+    ensures does { IfSome (In.remaining reader.old.reader) (λ input. (request : Result Request Error)
+        × IfOk request (λ good. ParsesTo (map S.text words.entry.now) good.task × ReadsFrom (map S.text words.entry.now) good.task good.file)
+        × IfErr request (λ e. (task : Task) → ParsesAsTask (map S.text words.entry.now) task → kind_of e ≡ OutOfMemory)
+        × ActsOnWords request input (Out.contents writer.old.writer) (Out.contents writer.new.writer)
         (Faults.contents faults.old.writer) (heard Faults.contents faults.new) result) }
     ensures status { IsStatus result }
     ensures device { result ≡ 3 → ((storm : StormWords) × Asks (map S.text words.entry.now) (Task.Storm storm))

@@ -23,16 +23,16 @@ use transcript_view::{View, view_epochs, view_picture};
 // The line, with its LF, that reports a missing entry: the number asked for, and the number that there is.
 fn missing_line(
     alloc: Global,
-    asked: u32,
-    told: &[u8],
+    entry: u32,
+    reason: &[u8],
     number: u32,
     end: &[u8],
 ) -> Result<Vec<u8>, AllocError>
-    ensures { IfOk result (λ line. line.items ≡ missing_line asked told.now number end.now) }
+    ensures { IfOk result (λ line. line.items ≡ missing_line entry reason.now number end.now) }
 {
     let mut line = Vec::new(alloc);
     line.extend_from_slice(b"! no entry ")?;
-    put_number(&mut line, u64::from(asked), told)?;
+    put_number(&mut line, u64::from(entry), reason)?;
     put_number(&mut line, u64::from(number), end)?;
     Ok(line)
 }
@@ -105,16 +105,16 @@ fn tell_view<Out: Write, Faults: Write>(
     match viewed {
         Ok(View::Text(text)) => show_text(&text, 0, writer, faults),
         Ok(View::Refused(damage)) => show_refusal(alloc, damage, writer, faults),
-        Ok(View::TooFew { asked, entries }) => {
-            let told = b": the transcript has ";
+        Ok(View::TooFew { number, entries }) => {
+            let reason = b": the transcript has ";
             tell_missing(
-                missing_line(alloc, asked, told, entries, b" entries\n"),
+                missing_line(alloc, number, reason, entries, b" entries\n"),
                 faults,
             )
         }
-        Ok(View::Forgotten { asked, base }) => {
-            let told = b": the transcript begins behind entry ";
-            tell_missing(missing_line(alloc, asked, told, base, b"\n"), faults)
+        Ok(View::Forgotten { number, base }) => {
+            let reason = b": the transcript begins behind entry ";
+            tell_missing(missing_line(alloc, number, reason, base, b"\n"), faults)
         }
         Err(InputFault::Read) => tell(RunFault::Read, faults),
         Err(InputFault::Memory) => tell(RunFault::Memory, faults),
