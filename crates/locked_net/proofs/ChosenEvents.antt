@@ -81,7 +81,7 @@ keeps_step t log after old new Same (Ok None) free is = is.0
 keeps_step t log after old new Same (Ok (Some reply)) free is = record {
   items = is.items;
   moves = is.moves;
-  kept = keeps t log after old new.receipts (Step is.items) reply free is.told;
+  kept = keeps t log after old new.receipts (Step is.items) reply free is.entry;
   moved = is.moved;
   one = is.one;
 }
@@ -93,7 +93,7 @@ keeps_fault t log after old new Same (Err fault) free is = tt
 keeps_fault t log after old new Same (Ok None) free is = is.0
 keeps_fault t log after old new Same (Ok (Some reply)) free is = record {
   event = is.event;
-  kept = keeps t log after old new.receipts is.event reply free is.told;
+  kept = keeps t log after old new.receipts is.event reply free is.entry;
   register = is.register;
   accepted = is.accepted;
 }

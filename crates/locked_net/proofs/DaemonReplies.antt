@@ -8,7 +8,7 @@ pub drives : (t : RuleTable) (before after : RetainedLog) (old new : List Receip
 drives t before after old new reply bits items same lawful told = record {
   items = items;
   moves = least_moves t before.state items;
-  told = told;
+  entry = told;
   moved = told.reply_is ∙ ap (reply_by t before.state before.spent (Step items)) (lawful_taken t before.state bits items same lawful);
   one = lawful.one;
 }

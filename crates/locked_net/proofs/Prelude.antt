@@ -28,7 +28,7 @@ pub use Rattle.rule_machine.specs.Least.{least_moves, reply_by, move_in, outcome
 pub use Rattle.rule_machine.specs.Network.{Network, present, node_count, names}
 pub use Rattle.rule_machine.specs.Refuse.{wish_refusal, rule_refusal, item_refusal, items_refusal, step_refusal}
 pub use Rattle.rule_machine.specs.RuleTable.{RuleTable, enabled_names, rule_at, least_target}
-pub use Rattle.rule_machine.specs.Run.{Entry, Moment, beginning_with, Run}
+pub use Rattle.rule_machine.specs.Run.{Entry, Moment, Run}
 pub use Rattle.rule_machine.specs.State.{State, pointer, IsState}
 pub use Rattle.rule_machine.specs.declared.act.Act.{Act}
 pub use Rattle.rule_machine.specs.declared.act.Moved.{Moved}
@@ -46,14 +46,13 @@ pub use Rattle.snapshots.proofs.Starts.{start_row, start_here, start_size, row_p
 pub use Rattle.snapshots.specs.CopyViews.{held_in, found_after}
 pub use Rattle.snapshots.specs.History.{AreComparable}
 pub use Rattle.snapshots.specs.Row.{Row, BoardShape, pointer_in, partner_in, row_effect, row_at_start, here_by, pointers_after, here_after, IsRun}
-pub use Rattle.snapshots.specs.Starts.{StartsAt, IsStart}
+pub use Rattle.snapshots.specs.Starts.{StartsAt}
 pub use Rattle.snapshots.specs.Views.{BoardName, ReaderView, PublishedLog, BoardView}
 pub use Rattle.step_log.proofs.AscendingNumbers.{rising_distinct}
 pub use Rattle.step_log.proofs.HeadlineProof.{upheld}
 pub use Rattle.step_log.specs.JournalViews.{JournalView, kept_of}
-pub use Rattle.step_log.specs.BaseStarts.{BeginsIn, kept_from}
-pub use Rattle.step_log.specs.Log.{max_entries, empty_log_with}
-pub use Rattle.step_log.specs.RetainedLogs.{RetainedLog, IsRetainedRun, checkpointed, kept_with, last_number, next_entry, next_receipt, moment_in, whole}
+pub use Rattle.step_log.specs.Log.{max_entries}
+pub use Rattle.step_log.specs.RetainedLogs.{RetainedLog, IsRetainedRun, checkpointed, kept_with, last_number, next_entry, next_receipt, moment_in}
 pub use Rattle.step_log.specs.declared.receipt.Receipt.{Receipt}
 pub use Rattle.locked_net.specs.Calls.{call_fault, checkpoint_fault, ExplainsCallFault, ExplainsStep, MayAnswer, MayAnswerStep, MayRefuseCheckpoint, RecordsEvent, Drives, Breaks, Keeps, KeepsStep, KeepsFault}
 pub use Rattle.locked_net.specs.ChosenEvents.{ChoosesStep, ChoosesOn, ClerkTakes, HoldsAll, Refuses, RefusesCheckpoint, RefusesStep}

@@ -39,13 +39,13 @@ ExplainsCallFault (Some found) fault = fault ≡ found
 
 -- the faults that a clerk can expect without seeing the log
 abbrev pub MayAnswer : ℕ → CallFault → Type 0
-MayAnswer seen (Behind front told) = (told ≡ seen) × (front < seen)
+MayAnswer seen (Behind front number) = (number ≡ seen) × (front < seen)
 MayAnswer seen LogFull = Unit {0}
 MayAnswer seen Memory = Unit {0}
 
 -- the same for a checkpoint
 abbrev pub MayRefuseCheckpoint : ℕ → CallFault → Type 0
-MayRefuseCheckpoint seen (Behind front told) = (told ≡ seen) × (front < seen)
+MayRefuseCheckpoint seen (Behind front number) = (number ≡ seen) × (front < seen)
 MayRefuseCheckpoint seen LogFull = ⊥
 MayRefuseCheckpoint seen Memory = Unit {0}
 
@@ -85,14 +85,14 @@ pub record RecordsEvent (t : RuleTable) (before after : RetainedLog) (old new : 
 pub record Drives (t : RuleTable) (before after : RetainedLog) (old new : List Receipt) (reply : Reply) : Type 0 where
   pub items : List Item
   pub moves : List Moved
-  pub told : RecordsEvent t before after old new (Step items) reply
+  pub entry : RecordsEvent t before after old new (Step items) reply
   pub moved : reply ≡ Moves moves
   pub one : IsTrue t.central → length items ≡ 1
 
 -- The recorded event is an accepted change of a register.
 pub record Breaks (t : RuleTable) (before after : RetainedLog) (old new : List Receipt) (reply : Reply) : Type 0 where
   pub event : Event
-  pub told : RecordsEvent t before after old new event reply
+  pub entry : RecordsEvent t before after old new event reply
   pub register : IsTrue (is_register_fault event)
   pub accepted : reply ≡ Accepted
 
@@ -106,7 +106,7 @@ ExplainsStep None (suc others) fault = fault ≡ Call Memory
 
 -- the faults that a clerk can expect without seeing the log
 abbrev pub MayAnswerStep : ℕ → ℕ → StepFault → Type 0
-MayAnswerStep seen workers (Call (Behind front told)) = (told ≡ seen) × (front < seen)
+MayAnswerStep seen workers (Call (Behind front number)) = (number ≡ seen) × (front < seen)
 MayAnswerStep seen workers (Call LogFull) = Unit {0}
 MayAnswerStep seen workers (Call Memory) = 0 < workers
 MayAnswerStep seen workers (Pool ZeroWorkers) = workers ≡ 0

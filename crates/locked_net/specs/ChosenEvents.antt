@@ -42,31 +42,31 @@ ByInjector stream t old new s event = DrawsFault t (stream old) (stream new) s e
 
 -- there is no reply exactly if there is no node
 abbrev pub NoneIfEmpty : Option Reply → State → Option Event → Type 0
-NoneIfEmpty told s event = IsNone told ↔ (node_count s.network ≡ 0)
+NoneIfEmpty answer s event = IsNone answer ↔ (node_count s.network ≡ 0)
 
 -- the reply and the receipt of the event chosen on a log; neither reply nor receipt if no event was chosen
 abbrev pub IsChosenReply : RuleTable → RetainedLog → Option Event → List Receipt → List Receipt → Option Reply → Type 0
-IsChosenReply t log None old new told = (told ≡ None) × (new ≡ old)
-IsChosenReply t log (Some event) old new told = (told ≡ Some (next_receipt t log event).reply) × (new ≡ old ++ next_receipt t log event ∷ [])
+IsChosenReply t log None old new answer = (answer ≡ None) × (new ≡ old)
+IsChosenReply t log (Some event) old new answer = (answer ≡ Some (next_receipt t log event).reply) × (new ≡ old ++ next_receipt t log event ∷ [])
 
 -- An event, or none, was chosen in the state of a log.
-pub record ChoosesOn (t : RuleTable) (log : RetainedLog) (Chooses : State → Option Event → Type 0) (old new : List Receipt) (told : Option Reply) : Type 0 where
+pub record ChoosesOn (t : RuleTable) (log : RetainedLog) (Chooses : State → Option Event → Type 0) (old new : List Receipt) (answer : Option Reply) : Type 0 where
   pub event : Option Event
   pub chosen : Chooses log.state event
-  pub is_told : IsChosenReply t log event old new told
+  pub is_told : IsChosenReply t log event old new answer
 
 -- A log includes all that the clerk has seen and has room for an entry; the event was chosen on this log. If
 -- the event was recorded, this log is a prefix of the log of the clerk's note.
-pub record TakesChoice (setting : Setting) (Chooses : State → Option Event → Type 0) (old new : List Receipt) (note : Option PublishedLog) (told : Option Reply) : Type 0 where
+pub record TakesChoice (setting : Setting) (Chooses : State → Option Event → Type 0) (old new : List Receipt) (note : Option PublishedLog) (answer : Option Reply) : Type 0 where
   pub log : RetainedLog
   pub own : IsLogIn setting log
   pub free : call_fault (front_of old) log ≡ None
-  pub taken : ChoosesOn setting.table log Chooses old new told
-  pub begins : IfSome told (λ _. IsPrefix log.entries (noted note))
+  pub taken : ChoosesOn setting.table log Chooses old new answer
+  pub begins : IfSome answer (λ _. IsPrefix log.entries (noted note))
 
 -- the same for a clerk before and after the call
 abbrev pub ClerkTakes : Setting → (State → Option Event → Type 0) → ClerkView → ClerkView → Option Reply → Type 0
-ClerkTakes setting Chooses old new told = TakesChoice setting Chooses old.receipts new.receipts new.note told
+ClerkTakes setting Chooses old new answer = TakesChoice setting Chooses old.receipts new.receipts new.note answer
 
 -- A log gives this fault to a clerk that has seen `seen` entries; `Memory` only if there is no other fault.
 -- `may` is what the clerk can expect without seeing the log.

@@ -68,12 +68,12 @@ StandsLast start log (receipt ∷ receipts) = StandsLastFrom start log receipt r
 -- a clerk with a receipt has a note, and the note's log has the entry of the last receipt
 abbrev pub NotesLast : List Receipt → Option PublishedLog → Type 0
 NotesLast receipts None = receipts ≡ []
-NotesLast receipts (Some told) = StandsLast (dropped told.base) told.log receipts
+NotesLast receipts (Some note) = StandsLast (dropped note.base) note.log receipts
 
 -- the entries of a note; none if there is no note
 abbrev pub noted : Option PublishedLog → List Entry
 noted None = []
-noted (Some told) = told.log
+noted (Some note) = note.log
 
 -- the numbers of the receipts rise, and the note's log has the entry of the last receipt
 pub record IsClerk (clerk : ClerkView) : Type 0 where
@@ -88,8 +88,8 @@ greater_base (Some one) (Some other) = Some (max one other)
 
 -- there is a note, and the note is of this history
 abbrev pub HasNoteOf : Book → ClerkView → Type 0
-HasNoteOf book clerk = IsSomeAnd clerk.note (λ told. told.book ≡ book)
+HasNoteOf book clerk = IsSomeAnd clerk.note (λ note. note.book ≡ book)
 
 -- if there is a note, the note is of this history
 abbrev pub IsOfBook : Book → ClerkView → Type 0
-IsOfBook book clerk = IfSome clerk.note (λ told. told.book ≡ book)
+IsOfBook book clerk = IfSome clerk.note (λ note. note.book ≡ book)

@@ -69,9 +69,9 @@ impl<R: Rules> BoardReader<R> {
         ensures learnt { OnView result (IsPrefix self.old.learnt self.new.list) }
         ensures run { OnView result (Shows R.table self.old.name.extent self.new.list (λ _. Unit {0})) }
         ensures present { OnOk result (Shows R.table self.old.name.extent self.new.list (λ s. IsTrue (present s.network v))) }
-        ensures front { IfOk result (λ seen. seen.0 ≡ dropped self.old.name.extent.base + length self.new.list) }
-        ensures pointer { IfOk result (λ seen. Shows R.table self.old.name.extent self.new.list (λ s. seen.1.0 ≡ pointer s v)) }
-        ensures partner { IfOk result (λ seen. Shows R.table self.old.name.extent self.new.list (λ s. seen.1.1 ≡ partner_in s.registers.pointers v)) }
+        ensures front { IfOk result (λ answer. answer.0 ≡ dropped self.old.name.extent.base + length self.new.list) }
+        ensures pointer { IfOk result (λ answer. Shows R.table self.old.name.extent self.new.list (λ s. answer.1.0 ≡ pointer s v)) }
+        ensures partner { IfOk result (λ answer. Shows R.table self.old.name.extent self.new.list (λ s. answer.1.1 ≡ partner_in s.registers.pointers v)) }
         ensures unknown { IfUnknown result (λ front. Shows R.table self.old.name.extent self.new.list (λ s. present s.network v ≡ false)) }
         ensures unknown_front { IfUnknown result (λ front. front ≡ dropped self.old.name.extent.base + length self.new.list) }
         ensures no_view { IsErrOf result NoLook → self.new.list ≡ self.old.list }
@@ -79,10 +79,10 @@ impl<R: Rules> BoardReader<R> {
         let Some(Snapshot { front, found }) = self.reader.look(v.place()) else {
             return Err(ReadFault::NoView);
         };
-        let Some(seen) = found else {
+        let Some(registers) = found else {
             return Err(ReadFault::UnknownNode { front });
         };
-        Ok((front, seen))
+        Ok((front, registers))
     }
 
     /// A node's pointer after the log's entries up to the number `front`. Costs a few steps.
@@ -98,8 +98,8 @@ impl<R: Rules> BoardReader<R> {
         ensures learnt { OnView result (IsPrefix self.old.learnt self.new.list) }
         ensures run { OnView result (Shows R.table self.old.name.extent self.new.list (λ _. Unit {0})) }
         ensures present { OnOk result (Shows R.table self.old.name.extent self.new.list (λ s. IsTrue (present s.network v))) }
-        ensures front { IfOk result (λ seen. seen.front ≡ dropped self.old.name.extent.base + length self.new.list) }
-        ensures found { IfOk result (λ seen. Shows R.table self.old.name.extent self.new.list (λ s. seen.pointer ≡ pointer s v)) }
+        ensures front { IfOk result (λ answer. answer.front ≡ dropped self.old.name.extent.base + length self.new.list) }
+        ensures found { IfOk result (λ answer. Shows R.table self.old.name.extent self.new.list (λ s. answer.pointer ≡ pointer s v)) }
         ensures unknown { IfUnknown result (λ front. Shows R.table self.old.name.extent self.new.list (λ s. present s.network v ≡ false)) }
         ensures unknown_front { IfUnknown result (λ front. front ≡ dropped self.old.name.extent.base + length self.new.list) }
         ensures no_view { IsErrOf result NoLook → self.new.list ≡ self.old.list }
@@ -116,8 +116,8 @@ impl<R: Rules> BoardReader<R> {
         ensures learnt { OnView result (IsPrefix self.old.learnt self.new.list) }
         ensures run { OnView result (Shows R.table self.old.name.extent self.new.list (λ _. Unit {0})) }
         ensures present { OnOk result (Shows R.table self.old.name.extent self.new.list (λ s. IsTrue (present s.network v))) }
-        ensures front { IfOk result (λ seen. seen.front ≡ dropped self.old.name.extent.base + length self.new.list) }
-        ensures found { IfOk result (λ seen. Shows R.table self.old.name.extent self.new.list (λ s. seen.partner ≡ partner_in s.registers.pointers v)) }
+        ensures front { IfOk result (λ answer. answer.front ≡ dropped self.old.name.extent.base + length self.new.list) }
+        ensures found { IfOk result (λ answer. Shows R.table self.old.name.extent self.new.list (λ s. answer.partner ≡ partner_in s.registers.pointers v)) }
         ensures unknown { IfUnknown result (λ front. Shows R.table self.old.name.extent self.new.list (λ s. present s.network v ≡ false)) }
         ensures unknown_front { IfUnknown result (λ front. front ≡ dropped self.old.name.extent.base + length self.new.list) }
         ensures no_view { IsErrOf result NoLook → self.new.list ≡ self.old.list }
@@ -158,12 +158,12 @@ impl<R: Rules> BoardReader<R> {
     /// The clerk must have called only the reader's network, or none. The clerk does not change.
     #[tactic(auto, using(crate::proofs::BoardReads::noted_last))]
     pub fn learn(&mut self, clerk: &mut Clerk)
-        requires { IfSome clerk.old.note (λ told. told.book ≡ self.old.name.book) }
+        requires { IfSome clerk.old.note (λ note. note.book ≡ self.old.name.book) }
         ensures clerk { clerk.new ≡ clerk.old }
         ensures kept { (self.new.list ≡ self.old.list) × (self.new.name ≡ self.old.name) }
         ensures learnt { IsPrefix self.old.learnt self.new.learnt }
-        ensures note { IfSome clerk.old.note (λ told. IsPrefix told.log self.new.learnt) }
-        ensures one_log { IfSome clerk.old.note (λ told. IsOneLog told.log self.old.list) }
+        ensures note { IfSome clerk.old.note (λ note. IsPrefix note.log self.new.learnt) }
+        ensures one_log { IfSome clerk.old.note (λ note. IsOneLog note.log self.old.list) }
         ensures last { StandsLast (dropped self.old.name.extent.base) self.new.learnt clerk.old.receipts }
     {
         if let Some(note) = clerk.note() {

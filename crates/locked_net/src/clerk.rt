@@ -107,7 +107,7 @@ impl Clerk {
     /// Of the logs of the clerk's note and of another note of its network, one is a prefix of the other.
     /// Runs no code.
     pub fn follows(&self, before: &Option<Note>)
-        requires { IfSome before.now (λ told. IsOfBook told.book self.now) }
+        requires { IfSome before.now (λ note. IsOfBook note.book self.now) }
         ensures notes { AreComparable (noted before.now) (noted self.now.note) }
         ensures clerk { IsClerk self.now }
     {

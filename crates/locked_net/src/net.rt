@@ -97,10 +97,11 @@ impl<R: Rules> LockedNet<R> {
         }
     }
 
-    /// The network of a journal without entries. Its log begins where the journal does, with the journal's base.
-    /// `limit` is the journal's. As many nodes are present as when the journal began. If the journal counts
-    /// rounds, the network counts on.
-    /// `AllocError` if memory runs out. Costs what a checkpoint costs, if the journal has a base, and a board.
+    /// The network of a journal without entries: its log begins at the journal's base, if any.
+    /// `limit` is the journal's. If the journal counts rounds, the network counts on.
+    /// New journals, and those of `from_base` and `of_net`, have as many nodes as at their beginning. A journal
+    /// with a checkpoint after joins or leaves may not.
+    /// `AllocError` if memory runs out. Costs a board, and what a checkpoint costs if there is a base.
     pub fn of_journal<W: Wait>(
         alloc: Global,
         rt: &W,

@@ -149,12 +149,12 @@ impl<R: Rules> PublishedJournal<R> {
         ensures log { OnOk result (self.new.log ≡ kept_with R.table self.old.log event) }
         ensures receipt { OnOk result (receipts.new.items ≡ receipts.old.items ++ next_receipt R.table self.old.log event ∷ []) }
         ensures same_receipts { OnErr result (receipts.new.items ≡ receipts.old.items) }
-        ensures reply { IfOk result (λ told. told.reply ≡ (next_receipt R.table self.old.log event).reply) }
-        ensures note { IfOk result (λ told. (told.note.log ≡ self.new.log.entries) × (told.note.book ≡ self.old.name.book) × (told.note.base ≡ self.old.log.base)) }
+        ensures reply { IfOk result (λ recorded. recorded.reply ≡ (next_receipt R.table self.old.log event).reply) }
+        ensures note { IfOk result (λ recorded. (recorded.note.log ≡ self.new.log.entries) × (recorded.note.book ≡ self.old.name.book) × (recorded.note.base ≡ self.old.log.base)) }
         ensures full { IsErrOf result LogFull → last_number self.old.log ≡ self.old.log.limit }
         ensures kept { OnErr result (self.new ≡ self.old) }
         ensures key { KeepsKey self.old self.new }
-        ensures counting { IfOk result (λ told. self.new.counting ≡ next_counting R.table told.reply self.new.log.state self.old.counting) }
+        ensures counting { IfOk result (λ recorded. self.new.counting ≡ next_counting R.table recorded.reply self.new.log.state self.old.counting) }
     {
         let prepared = self.journal.prepare(event)?;
         Ok(finish(&mut self.journal, &mut self.board, rt, prepared, receipts)?)
@@ -172,12 +172,12 @@ impl<R: Rules> PublishedJournal<R> {
         ensures log { OnOk result (self.new.log ≡ kept_with R.table self.old.log (Step choice)) }
         ensures receipt { OnOk result (receipts.new.items ≡ receipts.old.items ++ next_receipt R.table self.old.log (Step choice) ∷ []) }
         ensures same_receipts { OnErr result (receipts.new.items ≡ receipts.old.items) }
-        ensures reply { IfOk result (λ told. told.reply ≡ (next_receipt R.table self.old.log (Step choice)).reply) }
-        ensures note { IfOk result (λ told. (told.note.log ≡ self.new.log.entries) × (told.note.book ≡ self.old.name.book) × (told.note.base ≡ self.old.log.base)) }
+        ensures reply { IfOk result (λ recorded. recorded.reply ≡ (next_receipt R.table self.old.log (Step choice)).reply) }
+        ensures note { IfOk result (λ recorded. (recorded.note.log ≡ self.new.log.entries) × (recorded.note.book ≡ self.old.name.book) × (recorded.note.base ≡ self.old.log.base)) }
         ensures full { IsErrOf result LogFull → last_number self.old.log ≡ self.old.log.limit }
         ensures kept { OnErr result (self.new ≡ self.old) }
         ensures key { KeepsKey self.old self.new }
-        ensures counting { IfOk result (λ told. self.new.counting ≡ next_counting R.table told.reply self.new.log.state self.old.counting) }
+        ensures counting { IfOk result (λ recorded. self.new.counting ≡ next_counting R.table recorded.reply self.new.log.state self.old.counting) }
     {
         let prepared = self.journal.prepare_step(choice, verdicts)?;
         Ok(finish(&mut self.journal, &mut self.board, rt, prepared, receipts)?)
@@ -260,8 +260,8 @@ fn finish<R: Rules, W: Wait>(
     ensures published { IsPublishedJournal R.table (kept_of journal.new) board.new }
     ensures receipt { OnOk result (receipts.new.items ≡ receipts.old.items ++ next_receipt R.table (log_over (kept_of journal.old) board.old) prepared.event ∷ []) }
     ensures same_receipts { OnErr result (receipts.new.items ≡ receipts.old.items) }
-    ensures reply { IfOk result (λ told. told.reply ≡ prepared.reply) }
-    ensures note { IfOk result (λ told. (told.note.log ≡ board.new.list) × (told.note.book ≡ board.old.name.book) × (told.note.base ≡ board.old.name.extent.base)) }
+    ensures reply { IfOk result (λ recorded. recorded.reply ≡ prepared.reply) }
+    ensures note { IfOk result (λ recorded. (recorded.note.log ≡ board.new.list) × (recorded.note.book ≡ board.old.name.book) × (recorded.note.base ≡ board.old.name.extent.base)) }
     ensures name { board.new.name ≡ board.old.name }
     ensures kept { OnErr result ((kept_of journal.new ≡ kept_of journal.old) × (board.new.list ≡ board.old.list)) }
     ensures counting { OnOk result (journal.new.counting ≡ next_counting R.table prepared.reply journal.new.state journal.old.counting) }

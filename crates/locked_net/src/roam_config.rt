@@ -85,15 +85,15 @@ pub(crate) fn take_turns<R: Rules, G: Gate, W: Wait>(
     answer
 }
 
-/// Makes the clerk's note show also what `seen` shows, if there is such a note.
-fn show(clerk: &mut Clerk, seen: Option<Note>)
-    requires { IfSome seen (λ note. IsOfBook note.book clerk.old) }
-    ensures seen { IsPrefix (noted seen) (noted clerk.new.note) }
-    ensures note { MatchOption seen (clerk.new ≡ clerk.old) (λ note. HasNoteOf note.book clerk.new) }
+/// Makes the clerk's note show also what `other` shows, if there is such a note.
+fn show(clerk: &mut Clerk, other: Option<Note>)
+    requires { IfSome other (λ note. IsOfBook note.book clerk.old) }
+    ensures other { IsPrefix (noted other) (noted clerk.new.note) }
+    ensures note { MatchOption other (clerk.new ≡ clerk.old) (λ note. HasNoteOf note.book clerk.new) }
     ensures receipts { clerk.new.receipts ≡ clerk.old.receipts }
     ensures base { clerk.new.base ≡ clerk.old.base }
 {
-    if let Some(seen) = seen {
-        clerk.sees(seen);
+    if let Some(other) = other {
+        clerk.sees(other);
     }
 }

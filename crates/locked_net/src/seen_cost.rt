@@ -24,11 +24,11 @@ impl<R: Rules> LockedNet<R> {
         ensures { IsCostSeen (setting_of R.table self.now) (book_of self.now) R.cost event.now result.cost result.note }
     {
         let held = self.hold(rt);
-        let seen = SeenCost {
+        let answer = SeenCost {
             cost: held.net().cost_of(event),
             note: held.note(),
         };
         held.free();
-        seen
+        answer
     }
 }

@@ -34,19 +34,19 @@ impl<R: Rules> LockedNet<R> {
         ensures { IsRestSeen (setting_of R.table self.now) (book_of self.now) v result.rests result.note }
     {
         let held = self.hold(rt);
-        let seen = SeenRest {
+        let answer = SeenRest {
             rests: held.net().is_at_rest(v),
             note: held.note(),
         };
         held.free();
-        seen
+        answer
     }
 
     /// The nodes that an event would reach after the present log; see `Net::reach_of`.
     /// The note is of exactly this log. Records nothing. Waits for the network's lock.
     /// `AllocError` if memory runs out.
     pub fn reach_of<W: Wait>(&self, rt: &W, event: &Event) -> Result<SeenReach, Want>
-        ensures { IfOk result (λ seen. IsReachSeen (setting_of R.table self.now) (book_of self.now) event.now seen.nodes.items seen.note) }
+        ensures { IfOk result (λ reach. IsReachSeen (setting_of R.table self.now) (book_of self.now) event.now reach.nodes.items reach.note) }
     {
         let held = self.hold(rt);
         let found = held.net().reach_of(event);

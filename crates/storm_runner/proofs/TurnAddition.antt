@@ -10,8 +10,8 @@ pub stepped : (t : RuleTable) (before after : PublishedJournalView) (old new : C
 stepped t before after old new None kept = kept.0
 stepped t before after old new (Some reply) drove = record {
   receipt = next_receipt t before.log (Step drove.items);
-  added = drove.told.receipt;
-  is = record { items = drove.items; moves = drove.moves; stepped = refl; moved = sym drove.told.reply_is ∙ drove.moved };
+  added = drove.entry.receipt;
+  is = record { items = drove.items; moves = drove.moves; stepped = refl; moved = sym drove.entry.reply_is ∙ drove.moved };
 }
 
 -- and one of an injector its fault
@@ -20,8 +20,8 @@ pub struck : (t : RuleTable) (before after : PublishedJournalView) (old new : Cl
 struck t before after old new None kept = kept.0
 struck t before after old new (Some reply) broke = record {
   receipt = next_receipt t before.log broke.event;
-  added = broke.told.receipt;
-  is = record { register = broke.register; accepted = sym broke.told.reply_is ∙ broke.accepted };
+  added = broke.entry.receipt;
+  is = record { register = broke.register; accepted = sym broke.entry.reply_is ∙ broke.accepted };
 }
 
 -- a receipt that was gained stays

@@ -37,13 +37,13 @@ pub record IsTurn (scene : Scene) (draws : Draws) (words : Stream) (receipt : Re
 
 -- An event, or none, was chosen on a beginning of the log that the clerk's new note shows. A chosen event was
 -- recorded there. This beginning includes all that the clerk had seen.
-pub record TakesChosenEvent (setting : Setting) (Chooses : State → Option Event → Type 0) (old : List Receipt) (new : ClerkView) (told : Option Reply) : Type 0 where
-  pub took : TakesChoice setting Chooses old new.receipts new.note told
+pub record TakesChosenEvent (setting : Setting) (Chooses : State → Option Event → Type 0) (old : List Receipt) (new : ClerkView) (answer : Option Reply) : Type 0 where
+  pub took : TakesChoice setting Chooses old new.receipts new.note answer
   pub begins : IsPrefix took.log.entries (noted new.note)
 
 -- what was chosen is what these words draw in the state there, and the second words are left
 abbrev pub Draw : Setting → Draws → Stream → Stream → List Receipt → ClerkView → Option Reply → Type 0
-Draw setting draws words left old new told = TakesChosenEvent setting (λ s event. (event, left) ≡ draws setting.table s words) old new told
+Draw setting draws words left old new answer = TakesChosenEvent setting (λ s event. (event, left) ≡ draws setting.table s words) old new answer
 
 -- a receipt of the kind was added
 pub record Gains (P : Receipt → Type 0) (old new : List Receipt) : Type 0 where

@@ -50,9 +50,9 @@ pub(crate) trait TurnTaker {
         held: &mut HeldNet<'_, R>,
         clerk: &mut Clerk,
     ) -> Result<Option<Reply>, CallFault>
-        ensures gains { IfOk result (λ told. MatchOption told (clerk.new ≡ clerk.old) (λ _. Gains fits clerk.old.receipts clerk.new.receipts)) }
+        ensures gains { IfOk result (λ answer. MatchOption answer (clerk.new ≡ clerk.old) (λ _. Gains fits clerk.old.receipts clerk.new.receipts)) }
         ensures drawn { IfOk result (ChoosesOn R.table held.old.log (λ s event. (event, stream self.new) ≡ draws R.table s (stream self.old)) clerk.old.receipts clerk.new.receipts) }
-        ensures idle { IfOk result (λ told. IsNone told → idles R.table held.old.log.state) }
+        ensures idle { IfOk result (λ answer. IsNone answer → idles R.table held.old.log.state) }
         ensures call { HeldCall some_of held.old held.new clerk.old clerk.new result }
         ensures admitted { Admits (call_fault (seen_by clerk.old) held.old.log) result };
 }
@@ -105,46 +105,46 @@ fn take_turn<R: Rules, S: TurnTaker, W: Wait>(
     source: &mut S,
 ) -> Result<Option<Reply>, CallFault>
     requires { IsOfBook (book_of net.now) clerk.old }
-    ensures gains { IfOk result (λ told. MatchOption told (clerk.new.receipts ≡ clerk.old.receipts) (λ _. Gains S.fits clerk.old.receipts clerk.new.receipts)) }
+    ensures gains { IfOk result (λ answer. MatchOption answer (clerk.new.receipts ≡ clerk.old.receipts) (λ _. Gains S.fits clerk.old.receipts clerk.new.receipts)) }
     ensures drawn { IfOk result (Draw (setting_of R.table net.now) S.draws (S.stream source.old) (S.stream source.new) clerk.old.receipts clerk.new) }
-    ensures rests { IfOk result (λ told. IsNone told → (old own : List Receipt) → clerk.old.receipts ≡ old ++ own → IsIdleBehind S.idles (scene_of (setting_of R.table net.now) clerk.new) (front_of old) own) }
+    ensures rests { IfOk result (λ answer. IsNone answer → (old own : List Receipt) → clerk.old.receipts ≡ old ++ own → IsIdleBehind S.idles (scene_of (setting_of R.table net.now) clerk.new) (front_of old) own) }
     ensures note { OnOk result (HasNoteOf (book_of net.now) clerk.new) }
     ensures grows { OnOk result (IsPrefix (noted clerk.old.note) (noted clerk.new.note)) }
     ensures base { clerk.new.base ≡ clerk.old.base }
-    ensures above { IfOk result (λ told. IfSome told (λ _. seen_by clerk.old < front_of clerk.new.receipts)) }
+    ensures above { IfOk result (λ answer. IfSome answer (λ _. seen_by clerk.old < front_of clerk.new.receipts)) }
     ensures kept { OnErr result (clerk.new ≡ clerk.old) }
 {
     let before = clerk.noted();
     let mut held = net.hold(rt);
     let answer = source.record(rt, &mut held, clerk);
-    let seen = held.note();
+    let after = held.note();
     held.free();
-    let told = answer?;
-    take_in(clerk, before, seen);
-    Ok(told)
+    let reply = answer?;
+    take_in(clerk, before, after);
+    Ok(reply)
 }
 
 /// Makes the clerk's note show what was published when its turn ended, and what the note showed before.
-fn take_in(clerk: &mut Clerk, before: Option<Note>, seen: Note)
-    requires own { IsOfBook seen.book clerk.old }
-    requires before { IfSome before (λ told. told.book ≡ seen.book) }
-    ensures seen { IsPrefix seen.log (noted clerk.new.note) }
+fn take_in(clerk: &mut Clerk, before: Option<Note>, after: Note)
+    requires own { IsOfBook after.book clerk.old }
+    requires before { IfSome before (λ note. note.book ≡ after.book) }
+    ensures after { IsPrefix after.log (noted clerk.new.note) }
     ensures before { IsPrefix (noted before) (noted clerk.new.note) }
     ensures grows { IsPrefix (noted clerk.old.note) (noted clerk.new.note) }
-    ensures note { HasNoteOf seen.book clerk.new }
+    ensures note { HasNoteOf after.book clerk.new }
     ensures receipts { clerk.new.receipts ≡ clerk.old.receipts }
     ensures base { clerk.new.base ≡ clerk.old.base }
 {
-    clerk.sees(seen);
+    clerk.sees(after);
     recall(clerk, before);
 }
 
 /// Makes the clerk's note show what it showed before a call, if there was a note.
 pub(crate) fn recall(clerk: &mut Clerk, before: Option<Note>)
-    requires { IfSome before (λ told. IsOfBook told.book clerk.old) }
+    requires { IfSome before (λ note. IsOfBook note.book clerk.old) }
     ensures before { IsPrefix (noted before) (noted clerk.new.note) }
     ensures grows { IsPrefix (noted clerk.old.note) (noted clerk.new.note) }
-    ensures note { MatchOption before (clerk.new ≡ clerk.old) (λ told. HasNoteOf told.book clerk.new) }
+    ensures note { MatchOption before (clerk.new ≡ clerk.old) (λ note. HasNoteOf note.book clerk.new) }
     ensures receipts { clerk.new.receipts ≡ clerk.old.receipts }
     ensures base { clerk.new.base ≡ clerk.old.base }
 {

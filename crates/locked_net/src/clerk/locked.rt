@@ -80,7 +80,7 @@ impl Clerk {
         net: &LockedNet<R>,
         daemon: &mut D,
     ) -> Result<Option<Reply>, CallFault>
-        ensures step { IfOk result (λ told. MatchOption told (self.new ≡ self.old) (KeepsStep R.table.central self.old.receipts self.new.receipts)) }
+        ensures step { IfOk result (λ answer. MatchOption answer (self.new ≡ self.old) (KeepsStep R.table.central self.old.receipts self.new.receipts)) }
         ensures chosen { IfOk result (ClerkTakes (setting_of R.table net.now) (ByDaemon D.chooses R.table daemon.old daemon.new) self.old self.new) }
         ensures call { ClerkCall some_of (book_of net.now) self.old self.new result }
         ensures refused { IfErr result (Refuses (setting_of R.table net.now) (seen_by self.old)) }
@@ -103,8 +103,8 @@ impl Clerk {
         net: &LockedNet<R>,
         injector: &mut Injector<G>,
     ) -> Result<Option<Reply>, CallFault>
-        ensures none { IfOk result (λ told. ClerkTakes (setting_of R.table net.now) (NoneIfEmpty told) self.old self.new told) }
-        ensures register { IfOk result (λ told. MatchOption told (self.new ≡ self.old) (KeepsFault self.old.receipts self.new.receipts)) }
+        ensures none { IfOk result (λ answer. ClerkTakes (setting_of R.table net.now) (NoneIfEmpty answer) self.old self.new answer) }
+        ensures register { IfOk result (λ answer. MatchOption answer (self.new ≡ self.old) (KeepsFault self.old.receipts self.new.receipts)) }
         ensures drawn { IfOk result (ClerkTakes (setting_of R.table net.now) (ByInjector G.stream R.table injector.old injector.new) self.old self.new) }
         ensures call { ClerkCall some_of (book_of net.now) self.old self.new result }
         ensures refused { IfErr result (Refuses (setting_of R.table net.now) (seen_by self.old)) }

@@ -24,12 +24,12 @@ impl<R: Rules> HeldNet<'_, R> {
         clerk: &mut Clerk,
         daemon: &mut D,
     ) -> Result<Option<Reply>, CallFault>
-        ensures step { IfOk result (λ told. MatchOption told
+        ensures step { IfOk result (λ answer. MatchOption answer
             ((clerk.new ≡ clerk.old) × (self.new ≡ self.old))
             (λ reply. Drives R.table self.old.log self.new.log clerk.old.receipts clerk.new.receipts reply)) }
         ensures chosen { IfOk result (ChoosesOn R.table self.old.log (ByDaemon D.chooses R.table daemon.old daemon.new) clerk.old.receipts clerk.new.receipts) }
         ensures call { HeldCall some_of self.old self.new clerk.old clerk.new result }
-        ensures counting { IfOk result (λ told. IfSome told (λ reply. self.new.counting ≡ next_counting R.table reply self.new.log.state self.old.counting)) }
+        ensures counting { IfOk result (λ answer. IfSome answer (λ reply. self.new.counting ≡ next_counting R.table reply self.new.log.state self.old.counting)) }
         ensures admitted { Admits (call_fault (seen_by clerk.old) self.old.log) result }
         ensures unasked { IfErr result (λ fault. (fault ≢ Memory) → daemon.new ≡ daemon.old) }
     {
@@ -51,13 +51,13 @@ impl<R: Rules> HeldNet<'_, R> {
         clerk: &mut Clerk,
         injector: &mut Injector<G>,
     ) -> Result<Option<Reply>, CallFault>
-        ensures register { IfOk result (λ told. MatchOption told
+        ensures register { IfOk result (λ answer. MatchOption answer
             ((clerk.new ≡ clerk.old) × (self.new ≡ self.old))
             (λ reply. Breaks R.table self.old.log self.new.log clerk.old.receipts clerk.new.receipts reply)) }
         ensures drawn { IfOk result (ChoosesOn R.table self.old.log (ByInjector G.stream R.table injector.old injector.new) clerk.old.receipts clerk.new.receipts) }
-        ensures none { IfOk result (λ told. IsNone told ↔ (node_count self.old.log.state.network ≡ 0)) }
+        ensures none { IfOk result (λ answer. IsNone answer ↔ (node_count self.old.log.state.network ≡ 0)) }
         ensures call { HeldCall some_of self.old self.new clerk.old clerk.new result }
-        ensures counting { IfOk result (λ told. IfSome told (λ reply. self.new.counting ≡ next_counting R.table reply self.new.log.state self.old.counting)) }
+        ensures counting { IfOk result (λ answer. IfSome answer (λ reply. self.new.counting ≡ next_counting R.table reply self.new.log.state self.old.counting)) }
         ensures admitted { Admits (call_fault (seen_by clerk.old) self.old.log) result }
         ensures unasked { IfErr result (λ fault. (fault ≢ Memory) → injector.new ≡ injector.old) }
     {

@@ -16,7 +16,7 @@ returns-clause-turns g c =
     elim c.if-no_note.branch [
       | then-no_note w ↦
           ends_shown setting shown turns old mid w.show.new.clerk c.if-no_note.clerk (result_err told.result) w.clerk-is w.show.ensures.receipts w.show.ensures.base
-          (subst (λ (o : Option PublishedLog). IsPrefix (noted o) (noted w.show.new.clerk.note)) w.noted.ensures.note w.show.ensures.seen) told.ensures.turns
+          (subst (λ (o : Option PublishedLog). IsPrefix (noted o) (noted w.show.new.clerk.note)) w.noted.ensures.note w.show.ensures.other) told.ensures.turns
       | else-no_note+else-receipts-before w ↦
           let before = ap length c.receipts-before.ensures.receipts in
           let now = ap length w.receipts.ensures.receipts in

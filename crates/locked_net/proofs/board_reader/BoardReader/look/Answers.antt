@@ -23,17 +23,17 @@ returns-clause-run g c =
 pub returns-clause-present : goal.returns-clause-present
 returns-clause-present g c =
     let some = c.in-Some.ensures in
-    (shown_by g.R.Rules.table _ c.args.self.now c.look.new.self.name c.place.result c.args.v c.look.new.self.list c.in-Some.field-0.found c.in-Some-found.seen c.self.view_is some.kept.1 c.place.ensures.same c.place.ensures.named.0 some.law some.found c.in-Some-found.is).present_is
+    (shown_by g.R.Rules.table _ c.args.self.now c.look.new.self.name c.place.result c.args.v c.look.new.self.list c.in-Some.field-0.found c.in-Some-found.registers c.self.view_is some.kept.1 c.place.ensures.same c.place.ensures.named.0 some.law some.found c.in-Some-found.is).present_is
 
 pub returns-clause-pointer : goal.returns-clause-pointer
 returns-clause-pointer g c =
     let some = c.in-Some.ensures in
-    (shown_by g.R.Rules.table _ c.args.self.now c.look.new.self.name c.place.result c.args.v c.look.new.self.list c.in-Some.field-0.found c.in-Some-found.seen c.self.view_is some.kept.1 c.place.ensures.same c.place.ensures.named.0 some.law some.found c.in-Some-found.is).pointer_is
+    (shown_by g.R.Rules.table _ c.args.self.now c.look.new.self.name c.place.result c.args.v c.look.new.self.list c.in-Some.field-0.found c.in-Some-found.registers c.self.view_is some.kept.1 c.place.ensures.same c.place.ensures.named.0 some.law some.found c.in-Some-found.is).pointer_is
 
 pub returns-clause-partner : goal.returns-clause-partner
 returns-clause-partner g c =
     let some = c.in-Some.ensures in
-    (shown_by g.R.Rules.table _ c.args.self.now c.look.new.self.name c.place.result c.args.v c.look.new.self.list c.in-Some.field-0.found c.in-Some-found.seen c.self.view_is some.kept.1 c.place.ensures.same c.place.ensures.named.0 some.law some.found c.in-Some-found.is).partner_is
+    (shown_by g.R.Rules.table _ c.args.self.now c.look.new.self.name c.place.result c.args.v c.look.new.self.list c.in-Some.field-0.found c.in-Some-found.registers c.self.view_is some.kept.1 c.place.ensures.same c.place.ensures.named.0 some.law some.found c.in-Some-found.is).partner_is
 
 pub returns-clause-front : goal.returns-clause-front
 returns-clause-front g c =
