@@ -1,5 +1,5 @@
 -- Fresh clerks after they have roamed.
-use Rattle.storm_runner.proofs.Prelude.{nil_from_length, inl, Entry, turns_on, ◌≡◌, ◌≢◌, ◌↔◌, ◌∙◌, ℕ, suc, ◌≤◌, List, [], ◌∷◌, ◌++◌, length, take, Result, Ok, Err, Option, None, IfErr, OnOk, IsErrOf, ⊎_elim, refl, sym, ap, subst, arith, All, length-drop, take_all, All-nil, All-cons, All-head, All-tail, All-weaker, option_or, IsPrefix, Book, ClerkView, fresh, noted, HasNoteOf, IsOfBook, Setting, AllRoam, RoamResult, KeepsNote, AllEnd, AllKeepNotes, EndsOnLog, MayEnd, MayMeetRoamFault, RoamFault, ZeroWorkers, Thread, CallFault, ScriptLine, IsRoaming, PlayedOn, ToldOn, AllRoamed, AllRoamedOnNotes, RoamResultOfNew, roam_call_fault, Some}
+use Rattle.storm_runner.proofs.Prelude.{nil_from_length, inl, Entry, turns_on, ◌≡◌, ◌≢◌, ◌↔◌, ◌∙◌, ℕ, suc, ◌≤◌, List, [], ◌∷◌, ◌++◌, length, take, Result, Ok, Err, Option, None, IfErr, IsErrOf, ⊎_elim, refl, sym, ap, subst, arith, All, length-drop, take_all, All-nil, All-cons, All-head, All-tail, All-weaker, option_or, IsPrefix, Book, ClerkView, fresh, noted, HasNoteOf, IsOfBook, Setting, AllRoam, RoamResult, KeepsNote, AllEnd, AllKeepNotes, MayEnd, MayMeetRoamFault, RoamFault, ZeroWorkers, Thread, CallFault, ScriptLine, IsRoaming, PlayedOn, ToldOn, AllRoamed, AllRoamedOnNotes, RoamResultOfNew, roam_call_fault, Some}
 use Rattle.storm_runner.proofs.ClerkNotes.{of_book}
 use Rattle.storm_runner.proofs.SplitScripts.{all_left, all_right}
 

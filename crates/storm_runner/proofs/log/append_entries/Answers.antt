@@ -1,4 +1,4 @@
-use Rattle.storm_runner.proofs.Prelude.{◌≡◌, ◌+◌, ◌-◌, ◌++◌, ℕ, Some, drop, slice_get, sym, subst, arith, dropped, entry_line, entry_lines, Event, Reply, IsEvent, IsReply, IsWritableEntry, AreWritable}
+use Rattle.storm_runner.proofs.Prelude.{◌≡◌, ◌+◌, ◌-◌, ◌++◌, ℕ, Some, drop, slice_get, subst, arith, dropped, entry_line, entry_lines, Event, Reply, IsEvent, IsReply, IsWritableEntry, AreWritable}
 use Rattle.storm_runner.proofs.EntryOutput.{one_more, one_more_value, grown_more}
 use Rattle.storm_runner.proofs.log.append_entries.Goals as goal
 
