@@ -98,7 +98,7 @@ class Acts:
         self.settle(lambda: bool(self.browser.ask("count", ".graph") > 0))
         self.browser.ask("choose", "#pace", "1000")
 
-    def settle(self, is_so: Callable[[], bool], seconds: float = 10) -> None:
+    def settle(self, is_so: Callable[[], bool], seconds: float = 30) -> None:
         until = time.monotonic() + seconds
         while not is_so() and time.monotonic() < until:
             time.sleep(0.05)

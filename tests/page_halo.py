@@ -44,7 +44,7 @@ def drawn(browser: Browser, which: str = GRAPH) -> Drawn:
 
 
 def haloed(browser: Browser, wanted: list[int], which: str = GRAPH) -> Any:
-    return waited(browser, wanted, "ringed", "reach", which, seconds=3)
+    return waited(browser, wanted, "ringed", "reach", which, seconds=20)
 
 
 def away(browser: Browser) -> None:
@@ -87,7 +87,7 @@ def cuts(pages: Any, browser: Browser) -> None:
     away(browser)
     pages.expect("no halo once the hand is away", haloed(browser, []), [])
     browser.click(*edge(browser, *wide))
-    after = waited(browser, drawn(browser).restless(), "ringed", "rest", GRAPH, seconds=3)
+    after = waited(browser, drawn(browser).restless(), "ringed", "rest", GRAPH, seconds=20)
     pages.expect(
         "who may still move once it is cut", (after, set(after) <= set(halo)), (drawn(browser).restless(), True)
     )
@@ -102,7 +102,7 @@ def cuts(pages: Any, browser: Browser) -> None:
     browser.click(*place(browser, "#run"))
     pages.expect("it settles", settles(browser), True)
     pages.expect("who else moves on the page", movers(transcript(browser).decode()) <= set(halo), True)
-    pages.expect("and nobody may still move", waited(browser, [], "ringed", "rest", GRAPH, seconds=3), [])
+    pages.expect("and nobody may still move", waited(browser, [], "ringed", "rest", GRAPH, seconds=20), [])
     agrees(pages, browser, "what was cut under a halo")
     pages.expect("complaints of cuts", browser.complaints, [])
 
@@ -150,7 +150,7 @@ def tools(pages: Any, browser: Browser) -> None:
     mouse(browser, "Released", end)
     line = f"point {single} {other}"
     pages.expect("and is then", waited(browser, line, "lastAct"), line)
-    pages.expect("who may still move then", waited(browser, [single], "ringed", "rest", which, seconds=3), [single])
+    pages.expect("who may still move then", waited(browser, [single], "ringed", "rest", which, seconds=20), [single])
     pages.expect("complaints of tools", browser.complaints, [])
 
 

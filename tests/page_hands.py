@@ -10,7 +10,7 @@ import struct
 import time
 import xml.etree.ElementTree as ElementTree
 import zlib
-from typing import Any, Protocol
+from typing import Any, Callable, Protocol
 
 from browser import Browser, PageFault
 from page_runs import Pages
@@ -52,12 +52,25 @@ class Asks(Protocol):
         """What a probe of page_probes.js returns."""
 
 
-def waited(browser: Asks, wanted: Any, probe: str, *words: Any, seconds: float = 10) -> Any:
+def waited(browser: Asks, wanted: Any, probe: str, *words: Any, seconds: float = 30) -> Any:
     """What a probe returns, once it is the expected value or these seconds have passed."""
     until = time.monotonic() + seconds
     while (came := browser.ask(probe, *words)) != wanted and time.monotonic() < until:
         time.sleep(0.05)
     return came
+
+
+def comes_true(is_so: Callable[[], bool], seconds: float = 30) -> bool:
+    """Whether it becomes so before these seconds have passed."""
+    until = time.monotonic() + seconds
+    while not (came := is_so()) and time.monotonic() < until:
+        time.sleep(0.05)
+    return came
+
+
+def changes(browser: Asks, before: Any, probe: str, *words: Any) -> bool:
+    """Whether a probe soon returns another value."""
+    return comes_true(lambda: bool(browser.ask(probe, *words) != before))
 
 
 def fills(pages: Pages, browser: Browser) -> None:
@@ -311,7 +324,7 @@ def colours_of(png: bytes) -> tuple[int, int, int]:
     return width, height, len(set(zlib.decompress(data)))
 
 
-def saved(folder: str, name: str, seconds: float = 20) -> bytes:
+def saved(folder: str, name: str, seconds: float = 60) -> bytes:
     until = time.monotonic() + seconds
     path = os.path.join(folder, name)
     while not os.path.exists(path) and time.monotonic() < until:

@@ -8,7 +8,7 @@ import time
 from typing import Any, Callable, Iterable, Sequence
 
 from browser import Browser, PageFault
-from page_hands import OWN_SCRIPTS, saved, waited
+from page_hands import OWN_SCRIPTS, changes, comes_true, saved, waited
 from page_runs import Pages
 
 TOP = os.path.dirname(os.path.dirname(os.path.abspath(__file__)))
@@ -45,7 +45,7 @@ def fresh(browser: Browser, kind: str = "ring", nodes: int = 6, rules: str = "hh
     waited(browser, False, "isRunning")
 
 
-def settles(browser: Browser, seconds: float = 15) -> Any:
+def settles(browser: Browser, seconds: float = 30) -> Any:
     return waited(browser, True, "isStable", seconds=seconds)
 
 
@@ -78,14 +78,11 @@ def tool(browser: Browser, name: str) -> None:
 
 
 def last_act(browser: Browser, wanted: str) -> Any:
-    return waited(browser, wanted, "lastAct", seconds=3)
+    return waited(browser, wanted, "lastAct", seconds=20)
 
 
 def daemon_moved(browser: Browser) -> bool:
-    until = time.monotonic() + 3
-    while not re.fullmatch(r"drive \d+ 1", browser.ask("lastLine")) and time.monotonic() < until:
-        time.sleep(0.05)
-    return bool(re.fullmatch(r"drive \d+ 1", browser.ask("lastLine")))
+    return comes_true(lambda: bool(re.fullmatch(r"drive \d+ 1", browser.ask("lastLine"))))
 
 
 def transcript(browser: Browser) -> bytes:
@@ -119,16 +116,11 @@ def agrees(pages: Pages, browser: Browser, name: str, rules: str = "hh") -> None
 
 
 def opens(pages: Pages, browser: Browser) -> None:
-    """Within a second the network runs or has settled; a first visitor is told what to do, and sees it
-    recover."""
+    """By itself the network runs or has settled; a first visitor is told what to do, and sees it recover."""
     begin(browser)
-    time.sleep(1)
-    said = [
-        browser.ask("text", "#hint"),
-        browser.ask("present") >= 10,
-        browser.ask("count", ".graph .pointer, .graph .edge.mutual") > 0,
-    ]
-    pages.expect("within a second", said, ["Click an edge to cut it.", True, True])
+    runs = comes_true(lambda: bool(browser.ask("count", ".graph .pointer, .graph .edge.mutual")))
+    said = [browser.ask("text", "#hint"), browser.ask("present") >= 10, runs]
+    pages.expect("by itself", said, ["Click an edge to cut it.", True, True])
     pages.expect("it settles", settles(browser), True)
     pair = browser.ask("attribute", ".graph .edge.mutual", "data-ends").split("-")
     browser.click(*edge(browser, *pair))
@@ -154,10 +146,10 @@ def acts(pages: Pages, browser: Browser) -> None:
     pages.expect("a node is dragged, and no line comes of it", (moved, len(browser.ask("acts"))), (True, 0))
     tool(browser, "link")
     drag(browser, node(browser, 2), node(browser, 5))
-    pages.expect("an edge is drawn from node to node", waited(browser, "link 2 5", "lastLine", seconds=3), "link 2 5")
+    pages.expect("an edge is drawn from node to node", waited(browser, "link 2 5", "lastLine", seconds=20), "link 2 5")
     browser.click(*node(browser, 1))
     browser.click(*node(browser, 3))
-    pages.expect("an edge by two clicks", waited(browser, "link 1 3", "lastLine", seconds=3), "link 1 3")
+    pages.expect("an edge by two clicks", waited(browser, "link 1 3", "lastLine", seconds=20), "link 1 3")
     tool(browser, "point")
     drag(browser, node(browser, 5), node(browser, 2))
     pages.expect("a pointer is written", last_act(browser, "point 5 2"), "point 5 2")
@@ -216,8 +208,9 @@ def moves(pages: Pages, browser: Browser) -> None:
     lines = len(browser.ask("script"))
     presses = 0
     while "unlink 2 3" in browser.ask("acts") and presses < 5:
+        before = browser.ask("script")
         browser.click(*place(browser, "#undo"))
-        time.sleep(0.4)
+        changes(browser, before, "script")
         presses += 1
     pages.expect(
         "acts are taken back one by one",
@@ -417,7 +410,7 @@ def addresses(pages: Pages, browser: Browser) -> None:
         ]
     ):
         begin(browser, "#" + words)
-        waited(browser, False, "isHidden", "#refusal", seconds=3)
+        waited(browser, False, "isHidden", "#refusal", seconds=20)
         told = [
             browser.ask("text", "#refusal-said"),
             browser.ask("title"),
@@ -455,7 +448,7 @@ def fingers(pages: Pages, browser: Browser) -> None:
     for step in range(1, 6):
         browser.touch("Move", (start[0] + (end[0] - start[0]) * step / 5, start[1] + (end[1] - start[1]) * step / 5))
     browser.touch("End")
-    pages.expect("a finger draws an edge", waited(browser, "link 1 4", "lastLine", seconds=3), "link 1 4")
+    pages.expect("a finger draws an edge", waited(browser, "link 1 4", "lastLine", seconds=20), "link 1 4")
     agrees(pages, browser, "by finger")
     browser.fingers(False)
     for width in (320, 360, 640, 1024):
@@ -488,7 +481,7 @@ def keys(pages: Pages, browser: Browser) -> None:
     strike("down", "down", "e", "enter")
     pages.expect("a link is cut by keys", last_act(browser, "unlink 1 2"), "unlink 1 2")
     strike("2", "down", "enter", "down", "down", "enter")
-    pages.expect("and drawn", waited(browser, "link 1 3", "lastLine", seconds=3), "link 1 3")
+    pages.expect("and drawn", waited(browser, "link 1 3", "lastLine", seconds=20), "link 1 3")
     strike("3", "down", "enter", "down", "down", "enter")
     pages.expect("a pointer", last_act(browser, "point 1 3"), "point 1 3")
     strike("a")
@@ -557,10 +550,7 @@ def without(pages: Pages, browser: Browser) -> None:
         judged = browser.ask("text", "#judged").startswith(f"Judged by Rudekpi's console audit: {verdict}. ")
         pages.expect(f"{source} a recorded transcript, as the program judges it", judged, True)
         first = browser.ask("entry")
-        until = time.monotonic() + 5
-        while browser.ask("entry") == first and time.monotonic() < until:
-            time.sleep(0.1)
-        pages.expect(f"{source} it plays", browser.ask("entry") != first, True)
+        pages.expect(f"{source} it plays", changes(browser, first, "entry"), True)
         dropped(browser, f"{TOP}/examples/broken_ring.transcript")
         pages.expect(f"{source} another one", waited(browser, other, "attribute", "#slider", "max"), other)
         foot = browser.ask("text", "#judged").startswith("Nobody has judged this transcript")

@@ -113,7 +113,7 @@ def full(pages: Pages, browser: Browser) -> None:
     browser.click(*place(browser, "#text-use"))
     said = waited(browser, False, "isHidden", "#text-wrong") or browser.ask("text", "#text-wrong")
     wanted = "The script was not played: line 1 writes more than 100,000 registers"
-    pages.expect("a script that fills the log", (said[: len(wanted)], time.monotonic() - begun < 4), (wanted, True))
+    pages.expect("a script that fills the log", (said[: len(wanted)], time.monotonic() - begun < 20), (wanted, True))
     pages.expect("the text that was typed stays", browser.ask("value", "#text"), lines)
     browser.ask("press", "#show-transcript")
     browser.ask("press", "#show-script")

@@ -554,6 +554,11 @@ class Lines(Timed):
             time.sleep(0.3)
             os.write(end, typed)
             shown += b"|"
+            while typed == b"\x03" and b"cut short" not in shown and time.monotonic() < wanted + 20:
+                if select.select([end], [], [], 2)[0]:
+                    shown += os.read(end, 4096)
+                else:
+                    os.write(end, typed)
         try:
             while select.select([end], [], [], 20)[0]:
                 shown += os.read(end, 4096)

@@ -332,7 +332,7 @@ class RandomTimes(Timed):
             self.assertEqual((cut, net.status().nodes), (300, 3))
 
 
-def wait_until(is_so: Callable[[], bool], seconds: float = 5) -> None:
+def wait_until(is_so: Callable[[], bool], seconds: float = 30) -> None:
     last = time.monotonic() + seconds
     while not is_so() and time.monotonic() < last:
         gc.collect()
