@@ -39,7 +39,12 @@ class WebKit:
         self.notes = f"{self.home}/notes"
         self.runs: list[subprocess.Popen[bytes]] = []
         try:
-            self.begin(width, height)
+            try:
+                self.begin(width, height)
+            except BrowserFault:
+                # another process may have taken the port
+                self.stop()
+                self.begin(width, height)
         except BaseException:
             self.end()
             raise
@@ -84,14 +89,18 @@ class WebKit:
             pass
         self.end()
 
-    def end(self) -> None:
-        for run in reversed(self.runs):
+    def stop(self) -> None:
+        while self.runs:
+            run = self.runs.pop()
             run.terminate()
             try:
                 run.wait(timeout=20)
             except subprocess.TimeoutExpired:
                 run.kill()
                 run.wait()
+
+    def end(self) -> None:
+        self.stop()
         self.remove_home()
 
     def call(self, method: str, path: str, **words: Any) -> Any:
