@@ -4,11 +4,11 @@ from __future__ import annotations
 
 import random
 import subprocess
-import time
 from typing import Callable, Protocol, Union
 
 from browser import Browser
 from firefox import Firefox
+from page_hands import comes_true
 
 AnyBrowser = Union[Browser, Firefox]
 
@@ -95,13 +95,8 @@ class Acts:
 
     def begin(self) -> None:
         self.browser.open(self.page)
-        self.settle(lambda: bool(self.browser.ask("count", ".graph") > 0))
+        comes_true(lambda: bool(self.browser.ask("count", ".graph") > 0))
         self.browser.ask("choose", "#pace", "1000")
-
-    def settle(self, is_so: Callable[[], bool], seconds: float = 30) -> None:
-        until = time.monotonic() + seconds
-        while not is_so() and time.monotonic() < until:
-            time.sleep(0.05)
 
     def one(self) -> None:
         """From a played transcript it sometimes goes back, or goes on where that ends."""
@@ -185,13 +180,13 @@ class Acts:
 
     def reload(self) -> str:
         self.browser.reload()
-        self.settle(lambda: bool(self.browser.ask("count", ".graph, #graph .node") > 0))
+        comes_true(lambda: bool(self.browser.ask("count", ".graph, #graph .node") > 0))
         return "reload"
 
     def verdict(self) -> str:
         if self.browser.ask("count", "body.lab") == 0:
             self.browser.ask("press", "#to-lab")
-            self.settle(lambda: bool(self.browser.ask("count", "body.lab") == 1))
+            comes_true(lambda: bool(self.browser.ask("count", "body.lab") == 1))
         if self.browser.ask("isRunning"):
             self.browser.ask("press", "#run")
         text = self.browser.ask("transcript").encode()

@@ -325,10 +325,8 @@ def colours_of(png: bytes) -> tuple[int, int, int]:
 
 
 def saved(folder: str, name: str, seconds: float = 60) -> bytes:
-    until = time.monotonic() + seconds
     path = os.path.join(folder, name)
-    while not os.path.exists(path) and time.monotonic() < until:
-        time.sleep(0.05)
+    comes_true(lambda: os.path.exists(path), seconds)
     with open(path, "rb") as file:
         return file.read()
 
