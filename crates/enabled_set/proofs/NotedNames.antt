@@ -1,5 +1,5 @@
 -- Names that leave a set are noted.
-use Rattle.enabled_set.proofs.Prelude.{◌≡◌, ℕ, zero, suc, Bool, true, false, List, [], ◌∷◌, set, refl, sym, ap, ◌∙◌, subst, ⊎_elim, get_or-set_other, true≢false, is_in}
+use Rattle.enabled_set.proofs.Prelude.{◌≡◌, ℕ, zero, suc, Bool, true, false, List, [], ◌∷◌, set, refl, sym, ◌∙◌, subst, ⊎_elim, get_or-set_other, true≢false, is_in}
 use Rattle.std.proofs.Common.{IsTrue}
 use Rattle.std.proofs.lemmas.Bool.{cases_eq}
 use Rattle.enabled_set.specs.RemovedNames.{RemovedNames, may_have, KeepsNotes}

@@ -1,6 +1,6 @@
 //! Scans of words and of counts.
 
-ghost use Rattle.std.specs.Prelude.{◌≡◌, ℕ, ◌+◌, ◌*◌, ◌<◌, ◌≤◌, length, slice_index, IfSome, IsNone, OnOk};
+ghost use Rattle.std.specs.Prelude.{◌≡◌, ◌+◌, ◌*◌, ◌<◌, ◌≤◌, length, slice_index, OnOk};
 ghost use Rattle.enabled_set.specs.Members.{has_bit, is_bit_on, HasOnlyNames};
 ghost use Rattle.enabled_set.specs.Counts.{tally, before, below};
 

@@ -1,6 +1,6 @@
 //! Bits of a 64-bit word.
 
-ghost use Rattle.std.specs.Prelude.{◌≡◌, ◌≢◌, ℕ, ◌+◌, ◌*◌, ◌<◌, ◌≤◌, ◌&&◌, ◌||◌, not, true, false, MatchOption};
+ghost use Rattle.std.specs.Prelude.{◌≡◌, ◌≢◌, ℕ, ◌+◌, ◌*◌, ◌<◌, ◌≤◌, true, false, MatchOption};
 ghost use Rattle.enabled_set.specs.Members.{has_bit};
 ghost use Rattle.enabled_set.specs.Counts.{tally};
 
@@ -47,24 +47,6 @@ pub struct Spot {
     pub left: u32,
 }
 
-/// Skips a block of `width` bits if the block has at most `spot.left` members. Branch-free.
-#[inline(always)]
-fn pass_over(spot: Spot, width: usize, members: u32) -> Spot
-    requires { spot.place + width ≤ 65536 }
-    ensures stays_place { spot.left < members → result.place ≡ spot.place }
-    ensures stays_left { spot.left < members → result.left ≡ spot.left }
-    ensures moves_place { members ≤ spot.left → result.place ≡ spot.place + width }
-    ensures moves_left { members ≤ spot.left → result.left + members ≡ spot.left }
-{
-    if spot.left < members {
-        return spot;
-    }
-    Spot {
-        place: spot.place + width,
-        left: spot.left - members,
-    }
-}
-
 /// The spot at `place` if the `members` before `place` are at most `to_pass`, else the old spot.
 #[inline(always)]
 pub fn spot_behind(spot: Spot, place: usize, to_pass: u32, members: u32) -> Spot
@@ -92,7 +74,7 @@ fn half(word: u64, spot: Spot, width: usize) -> Spot
     ensures near { result.place ≤ spot.place + width }
 {
     let low = word >> spot.place & ((1 << width) - 1);
-    pass_over(spot, width, low.count_ones())
+    spot_behind(spot, spot.place + width, spot.left, low.count_ones())
 }
 
 /// The index of the set bit that has exactly `to_pass` set bits below it.

@@ -1,6 +1,6 @@
 //! Edits of words of bits.
 
-ghost use Rattle.std.specs.Prelude.{◌≡◌, ℕ, ◌+◌, ◌-◌, ◌*◌, ◌<◌, ◌≤◌, false, true, ◌⊎◌, bit_and, length, nat_eq, slice_index};
+ghost use Rattle.std.specs.Prelude.{◌≡◌, ℕ, ◌+◌, ◌-◌, ◌*◌, ◌<◌, ◌≤◌, false, ◌⊎◌, bit_and, length, nat_eq, slice_index};
 ghost use Rattle.enabled_set.specs.Members.{first_bits, is_bit_on, members};
 ghost use Rattle.enabled_set.specs.TrimmedWords.{AreTrimmed};
 
@@ -31,7 +31,6 @@ pub fn is_blank(words: &[u64], used: usize) -> bool
     used == 0
 }
 
-/// Writes 0 to the words from index `from` up to index `to`.
 pub fn wipe(words: &mut [u64], from: usize, to: usize)
     requires { to ≤ length words.old }
     ensures off { (i : ℕ) → from ≤ i → i < to → slice_index words.new i ≡ 0 }
@@ -57,7 +56,6 @@ pub fn meet(words: &mut [u64], other: &[u64], used: usize)
     wipe(words, shared, used);
 }
 
-/// Copies the words from index `from` up to index `to`.
 #[inline(always)]
 fn copy(words: &mut [u64], other: &[u64], from: usize, to: usize)
     requires here { to ≤ length words.old }

@@ -13,7 +13,6 @@ use std::alloc::Global;
 // By how many names a full vector grows, beside a quarter of its length.
 const MORE: usize = 12;
 
-/// The `len` names of a pool from `start` on.
 #[inline(always)]
 pub fn names_in(pool: &[Node], start: usize, len: usize) -> &[Node]
     requires { start + len ≤ length pool.now }
@@ -22,7 +21,6 @@ pub fn names_in(pool: &[Node], start: usize, len: usize) -> &[Node]
     &pool[start..start + len]
 }
 
-/// Inserts a name into the `len` names of a pool from `start` on.
 #[inline(always)]
 pub fn put_name(pool: &mut [Node], start: usize, len: usize, place: usize, name: Node)
     requires inside { place ≤ len }
@@ -33,7 +31,6 @@ pub fn put_name(pool: &mut [Node], start: usize, len: usize, place: usize, name:
     put_first(&mut pool[start + place..start + len + 1], name);
 }
 
-/// Removes one of the `len` names of a pool from `start` on.
 #[inline(always)]
 pub fn take_name(pool: &mut [Node], start: usize, len: usize, place: usize)
     requires inside { place < len }

@@ -1,6 +1,6 @@
 //! The store of edges.
 
-ghost use Rattle.std.specs.Prelude.{◌≡◌, ◌≢◌, ◌≤◌, ℕ, false, length, [], slice_get, slice_set, IfOk, IfErr, OnOk, OnErr, MatchOption, IsTrue, All, None, Some};
+ghost use Rattle.std.specs.Prelude.{◌≡◌, ◌≢◌, ◌≤◌, ℕ, true, false, length, [], slice_get, slice_set, IfOk, IfErr, OnOk, OnErr, MatchOption, IsTrue, All, None, Some};
 ghost use Rattle.std.specs.List.Sorted.{IsStrictlyIncreasing};
 ghost use Rattle.rule_machine.specs.Network.{edgeless, edgeless_with, with_node, without_node, names, first_names, node_count, edge_count, edge_list, present, linked, neighbours, with_edge, without_edge};
 ghost use Rattle.graph_store.specs.Fault.{nodes_fault, ends_fault, join_fault, leave_fault, link_fault, unlink_fault, ExplainsGraphFault};
@@ -10,7 +10,7 @@ ghost use Rattle.graph_store.specs.declared.fault.GraphFault.TheVariants.{Memory
 
 use crate::GraphFault;
 use crate::row_pool::Rows;
-use crate::rows::{find_gap, find_place, guess_gap};
+use crate::rows::{find_index, find_place, guess_gap};
 use enabled_set::EnabledSet;
 use rule_machine::{Edge, MAX_EDGES, MAX_NAME, Node, Want};
 use std::alloc::Global;
@@ -191,20 +191,13 @@ impl EdgeStore {
         self.check_link(a, b).err()
     }
 
-    fn find_gap(&self, v: Node, w: Node) -> usize
-        requires present { IsTrue (present self.now.network v) }
-        requires apart { linked self.now.network v w ≡ false }
-        ensures { IsGapFor (neighbours self.now.network v) w result }
+    // The index of `w` among the neighbours of `v`, or where `w` belongs.
+    fn find_index(&self, v: Node, w: Node) -> usize
+        requires { IsTrue (present self.now.network v) }
+        ensures gap { linked self.now.network v w ≡ false → IsGapFor (neighbours self.now.network v) w result }
+        ensures place { linked self.now.network v w ≡ true → IsPlaceOf (neighbours self.now.network v) w result }
     {
-        find_gap(self.neighbours(v), w)
-    }
-
-    fn guess_gap(&self, v: Node, w: Node) -> usize
-        requires present { IsTrue (present self.now.network v) }
-        requires apart { linked self.now.network v w ≡ false }
-        ensures { IsGapFor (neighbours self.now.network v) w result }
-    {
-        guess_gap(self.neighbours(v), self.last_gap, w)
+        find_index(self.neighbours(v), w)
     }
 
     fn make_room(&mut self, a: Node, b: Node) -> Result<(), GraphFault>
@@ -217,17 +210,6 @@ impl EdgeStore {
         self.rows.reserve_both(a, b).map_err(|_| GraphFault::Memory)
     }
 
-    fn put_edge(&mut self, a: Node, place_in_a: usize, b: Node, place_in_b: usize)
-        requires free { link_fault self.old.network a b ≡ None }
-        requires room { HasRoomFor self.old.room a b }
-        requires gap_in_a { IsGapFor (neighbours self.old.network a) b place_in_a }
-        requires gap_in_b { IsGapFor (neighbours self.old.network b) a place_in_b }
-        ensures network { self.new.network ≡ with_edge self.old.network a b }
-    {
-        self.rows.put_both(a, place_in_a, b, place_in_b);
-        self.edges += 1;
-    }
-
     /// Inserts the edge between two nodes: a binary search and a shift in both rows.
     /// Errors, in this order: `UnknownNode` if an end is not a node of the graph, `SelfLoop`,
     /// `AlreadyLinked`, `TooManyEdges` at 1,048,576 edges, `Memory`.
@@ -236,10 +218,8 @@ impl EdgeStore {
         ensures fault { IfErr result (λ fault. ExplainsGraphFault (link_fault self.old.network a b) fault) }
         ensures unchanged { OnErr result (self.new.network ≡ self.old.network) }
     {
-        let place_in_a = self.check_link(a, b)?;
-        self.make_room(a, b)?;
-        let place_in_b = self.find_gap(b, a);
-        self.put_edge(a, place_in_a, b, place_in_b);
+        self.reserve_link(a, b)?;
+        self.link_reserved(a, b);
         Ok(())
     }
 
@@ -263,19 +243,10 @@ impl EdgeStore {
         requires room { HasRoomFor self.old.room a b }
         ensures network { self.new.network ≡ with_edge self.old.network a b }
     {
-        let place_in_a = self.guess_gap(a, b);
-        let place_in_b = self.find_gap(b, a);
-        self.put_edge(a, place_in_a, b, place_in_b);
-    }
-
-    fn find_edge(&self, v: Node, w: Node) -> usize
-        requires { IsTrue (linked self.now.network v w) }
-        ensures { IsPlaceOf (neighbours self.now.network v) w result }
-    {
-        match find_place(self.rows.row(v), w) {
-            Ok(place) => place,
-            Err(gap) => gap,
-        }
+        let place_in_a = guess_gap(self.neighbours(a), self.last_gap, b);
+        let place_in_b = self.find_index(b, a);
+        self.rows.put_both(a, place_in_a, b, place_in_b);
+        self.edges += 1;
     }
 
     /// Removes an edge: a binary search and a shift in both rows.
@@ -283,8 +254,8 @@ impl EdgeStore {
         requires { IsTrue (linked self.old.network a b) }
         ensures network { self.new.network ≡ without_edge self.old.network a b }
     {
-        let place_in_a = self.find_edge(a, b);
-        let place_in_b = self.find_edge(b, a);
+        let place_in_a = self.find_index(a, b);
+        let place_in_b = self.find_index(b, a);
         self.rows.take_both(a, place_in_a, b, place_in_b);
         self.edges -= 1;
     }

@@ -93,7 +93,6 @@ impl Rows {
         names_in(&self.pool, head.start as usize, usize::from(head.len))
     }
 
-    // Makes room for one more neighbour of a name. Error: out of memory.
     #[inline(always)]
     fn make_room(&mut self, node: Node) -> Result<(), Want>
         requires { node < length self.old.lists }
@@ -211,7 +210,6 @@ impl Rows {
         self.make_room(b)
     }
 
-    /// Inserts two names into each other's lists, at these indices.
     pub fn put_both(&mut self, a: Node, place_in_a: usize, b: Node, place_in_b: usize)
         requires apart { a ≢ b }
         requires a_known { a < length self.old.lists }
@@ -225,7 +223,6 @@ impl Rows {
         self.put_in(b, place_in_b, a);
     }
 
-    /// Removes two names from each other's lists, at these indices.
     pub fn take_both(&mut self, a: Node, place_in_a: usize, b: Node, place_in_b: usize)
         requires apart { a ≢ b }
         requires a_known { a < length self.old.lists }

@@ -106,17 +106,16 @@ pub fn find_place(row: &[Node], name: Node) -> Result<usize, usize>
     }
 }
 
-/// The index where a new name belongs. Costs as much as `find_place`.
-pub fn find_gap(row: &[Node], name: Node) -> usize
-    requires rising { IsStrictlyIncreasing row.now }
-    requires apart { has row.now name ≡ false }
-    ensures { IsGapFor row.now name result }
+/// A name's index in a row, or the index where the name belongs. Costs as much as `find_place`.
+pub fn find_index(row: &[Node], name: Node) -> usize
+    requires { IsStrictlyIncreasing row.now }
+    ensures gap { has row.now name ≡ false → IsGapFor row.now name result }
+    ensures place { has row.now name ≡ true → IsPlaceOf row.now name result }
 {
-    if let Some(gap) = find_outer_gap(row, name) {
-        return gap;
+    match find_place(row, name) {
+        Ok(place) => place,
+        Err(gap) => gap,
     }
-    let near = narrow(row, name);
-    near + usize::from(row[near] < name)
 }
 
 fn is_above(row: &[Node], place: usize, name: Node) -> bool
@@ -147,7 +146,7 @@ pub fn guess_gap(row: &[Node], guess: usize, name: Node) -> usize
     if guess <= row.len() && is_above(row, guess, name) && is_below(row, guess, name) {
         return guess;
     }
-    find_gap(row, name)
+    find_index(row, name)
 }
 
 /// Shifts a row's tail up by one, dropping its last name, and puts `name` first.

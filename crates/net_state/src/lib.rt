@@ -4,10 +4,9 @@
 //! absent name has no edge, a null pointer and a false flag. `NetState` does not check the preconditions of
 //! its calls: its callers refuse events.
 //!
-//! Only `NetState` edits a state. Each edit returns the `Change` that it made: a pointer, a flag, an edge or a
-//! node. An `Observer` of a state stores values that depend on it, and updates them after each change. The free
-//! functions make an edit and pass its change to the observer; `unlink`, `leave` and `make_moves` consist of
-//! several edits.
+//! An `Observer` of a state stores values that depend on it, and updates them after each change. The free
+//! functions alone edit a state that is observed. Each passes the `Change` that it made to the observer: a
+//! pointer, a flag, an edge or a node; `unlink`, `leave` and `make_moves` consist of several edits.
 //!
 //! `OpenEdges` has a stance of each node on its edges (`set_stance`), and counts the edges that are open by the
 //! stances of both ends. Like an observer it follows each change (`follow`).
@@ -33,7 +32,6 @@ mod net;
 mod observer;
 mod open_edges;
 mod places;
-mod steps;
 
 pub use change::Change;
 pub use disturb::{

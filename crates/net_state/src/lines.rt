@@ -7,10 +7,10 @@ ghost use Rattle.std.specs.declared.cmp.Ordering.TheVariants.{Less};
 ghost use Rattle.rule_machine.specs.Network.{edge_list, names, pair_cmp, present};
 ghost use Rattle.rule_machine.specs.Refuse.{link_refusal, point_refusal};
 ghost use Rattle.rule_machine.specs.Disturbance.{after_flag, after_link, after_point};
-ghost use Rattle.rule_machine.specs.State.{State, IsState, opening_with};
+ghost use Rattle.rule_machine.specs.State.{State, IsState};
 ghost use Rattle.net_state.specs.BaseLines.{NamesRise, EdgesAscend, HasLines, NoStateHas, NoStateHolds, NoStateLinks};
 
-use crate::NetState;
+use crate::{NetState, join, set_flag, set_pointer};
 use rule_machine::{Edge, Node, NodeRecord, Want};
 use std::alloc::{AllocError, Global};
 
@@ -84,7 +84,9 @@ impl NetState {
         ensures some { IfOk result (λ found. IfSome found (λ net. HasLines size nodes.now edges.now net.state)) }
         ensures none { IfOk result (λ found. found ≡ None → NoStateHas size nodes.now edges.now) }
     {
-        let mut net = empty(alloc, size)?;
+        let Ok(mut net) = NetState::with_present(alloc, size, 0) else {
+            return Err(AllocError);
+        };
         if !join_all(&mut net, nodes) {
             return Ok(None);
         }
@@ -95,16 +97,6 @@ impl NetState {
             return Ok(None);
         }
         Ok(Some(net))
-    }
-}
-
-fn empty(alloc: Global, size: u32) -> Result<NetState, Want>
-    requires { size ≤ 65535 }
-    ensures { IfOk result (λ net. net.state ≡ opening_with size 0) }
-{
-    match NetState::with_present(alloc, size, 0) {
-        Ok(net) => Ok(net),
-        Err(_) => Err(AllocError),
     }
 }
 
@@ -121,7 +113,7 @@ fn join_all(net: &mut NetState, nodes: &[NodeRecord]) -> bool
         if place.node.name() > net.capacity() {
             return false;
         }
-        net.join(place.node);
+        join(net, &mut (), place.node);
     }
     true
 }
@@ -174,8 +166,8 @@ fn write(net: &mut NetState, place: NodeRecord)
     ensures sound { IsState net.old.state }
 {
     let _ = net.registers();
-    net.set_pointer(place.node, place.target);
-    net.set_flag(place.node, place.flagged);
+    set_pointer(net, &mut (), place.node, place.target);
+    set_flag(net, &mut (), place.node, place.flagged);
 }
 
 /// Stops with false at the first pointer to no neighbour.

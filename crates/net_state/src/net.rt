@@ -1,9 +1,11 @@
 //! A network with its registers.
 
-ghost use Rattle.std.specs.Prelude.{◌≡◌, ◌≤◌, ◌&&◌, All, IfOk, IfErr, IsTrue, OnOk, length, nat_le};
+ghost use Rattle.std.specs.Prelude.{◌≡◌, ◌≤◌, ◌&&◌, All, IfOk, IfErr, IsTrue, None, OnErr, OnOk, length, nat_le};
+ghost use Rattle.rule_machine.specs.Disturbance.{after_link};
 ghost use Rattle.rule_machine.specs.Network as network;
 ghost use Rattle.rule_machine.specs.State as state;
-ghost use Rattle.graph_store.specs.Fault.{nodes_fault, ExplainsGraphFault};
+ghost use Rattle.graph_store.specs.Fault.{link_fault, nodes_fault, ExplainsGraphFault};
+ghost use Rattle.graph_store.specs.Graph.{HasRoomFor};
 
 use graph_store::{EdgeStore, GraphFault};
 use registers::Registers;
@@ -174,5 +176,33 @@ impl NetState {
         ensures { result ≡ state.married self.now.state v }
     {
         self.registers.married(v)
+    }
+
+    /// Adds the edge between two nodes.
+    ///
+    /// Errors, checked in this order: `UnknownNode`, `SelfLoop`, `AlreadyLinked`, `TooManyEdges`, `Memory`.
+    /// An error changes nothing.
+    ///
+    /// Cost: a binary search and a shift in two neighbour lists.
+    pub fn link(&mut self, a: Node, b: Node) -> Result<(), GraphFault>
+        ensures ok { OnOk result ((link_fault self.old.state.network a b ≡ None) × (self.new.state ≡ after_link self.old.state a b)) }
+        ensures fault { IfErr result (λ fault. ExplainsGraphFault (link_fault self.old.state.network a b) fault) }
+        ensures kept { OnErr result (self.new.state ≡ self.old.state) }
+        ensures sound { state.IsState self.new.state }
+    {
+        self.store.link(a, b)
+    }
+
+    /// Makes room for the edge between two nodes, so that `link_reserved` takes no memory.
+    ///
+    /// Errors: as for `link`. The state never changes.
+    ///
+    /// Cost: a binary search, and the growth of at most two neighbour lists.
+    pub fn reserve_link(&mut self, a: Node, b: Node) -> Result<(), GraphFault>
+        ensures ok { OnOk result ((link_fault self.old.state.network a b ≡ None) × HasRoomFor self.new.room a b) }
+        ensures fault { IfErr result (λ fault. ExplainsGraphFault (link_fault self.old.state.network a b) fault) }
+        ensures kept { self.new.state ≡ self.old.state }
+    {
+        self.store.reserve_link(a, b)
     }
 }

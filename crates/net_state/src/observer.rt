@@ -20,3 +20,13 @@ pub trait Observer {
         ensures fits { fits net.now self.new }
         ensures stays { (names : List Bool) → stays names self.old → stays names self.new };
 }
+
+/// Observes nothing.
+impl Observer for () {
+    ghost fits = { λ net it. Unit {0} };
+
+    ghost stays = { λ names it. Unit {0} };
+
+    #[inline(always)]
+    fn saw(&mut self, net: &NetState, change: Change) {}
+}

@@ -2,7 +2,7 @@
 
 ghost use Rattle.std.specs.Prelude.{◌≡◌, ◌&&◌, ◌≤◌, false, not, cond, IsTrue};
 ghost use Rattle.rule_machine.specs.Network.{present};
-ghost use Rattle.rule_machine.specs.State.{State, IsState, holds_at, points};
+ghost use Rattle.rule_machine.specs.State.{IsState, holds_at, points};
 ghost use Rattle.rule_machine.specs.ChargeInputs.{IsChargeInput};
 ghost use Rattle.net_totals.specs.Contributions.{closing_at, stance_of, is_lower_end, node_part};
 
@@ -24,19 +24,6 @@ pub(crate) const NO_CONTRIBUTION: Contribution = Contribution {
     added: 0,
     closing: 0,
 };
-
-#[inline(always)]
-fn end_of<R: Rules>(node: &ChargeInput) -> EdgeStance
-    ensures { (s : State) → IsChargeInput s node.now → result ≡ stance_of R.COURTED_PAIR_CLOSES_EDGE s node.now.node }
-{
-    if node.is_married {
-        EdgeStance::Shut
-    } else if R::COURTED_PAIR_CLOSES_EDGE && node.pointer.is_none() && node.has_suitor {
-        EdgeStance::Courted
-    } else {
-        EdgeStance::Free
-    }
-}
 
 #[inline(always)]
 fn is_unanswered(registers: &Registers, node: &ChargeInput) -> bool
@@ -74,7 +61,6 @@ fn closes_edge<R: Rules>(index: &IndexedNet<'_, R>, w: Node, node: &ChargeInput)
     index.net().points(w, node.node) && R::closes(w, node)
 }
 
-/// As `closing_at`, by a look at each neighbour.
 fn closing_among<R: Rules>(index: &IndexedNet<'_, R>, node: &ChargeInput) -> u16
     requires present { IsTrue (present index.now.state.network node.now.node) }
     requires standing { IsChargeInput index.now.state node.now }
@@ -138,5 +124,12 @@ pub(crate) fn stance_at<R: Rules>(index: &IndexedNet<'_, R>, v: Node) -> EdgeSta
     if !index.net().has(v) {
         return EdgeStance::Shut;
     }
-    end_of::<R>(&standing(index, v))
+    let node = standing(index, v);
+    if node.is_married {
+        EdgeStance::Shut
+    } else if R::COURTED_PAIR_CLOSES_EDGE && node.pointer.is_none() && node.has_suitor {
+        EdgeStance::Courted
+    } else {
+        EdgeStance::Free
+    }
 }

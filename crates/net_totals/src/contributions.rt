@@ -1,6 +1,6 @@
 //! What each node contributes to the totals of its network, as of the last look at the node.
 
-ghost use Rattle.std.specs.Prelude.{◌≡◌, All, ℕ, ◌+◌, ◌<◌, ◌≤◌, length, slice_set, IfOk};
+ghost use Rattle.std.specs.Prelude.{◌≡◌, All, ◌+◌, ◌<◌, ◌≤◌, length, slice_set, IfOk};
 ghost use Rattle.rule_machine.specs.State.{IsState};
 ghost use Rattle.net_totals.specs.Contributions.{AreChargeSums, FitsSixteenBits, IsExactState};
 ghost use Rattle.net_state.specs.StateViews.{StateView};
@@ -66,7 +66,11 @@ impl<R: Rules> Contributions<R> {
         self.each[v.place()] = contribution;
         self.added = self.added - u32::from(was.added) + u32::from(contribution.added);
         self.closing = self.closing - u32::from(was.closing) + u32::from(contribution.closing);
-        put_member(&mut self.lower_ends, v, is_lower_end);
+        if is_lower_end {
+            self.lower_ends.insert(v);
+        } else {
+            self.lower_ends.remove(v);
+        }
     }
 }
 
@@ -81,16 +85,5 @@ impl<R: Rules> Observer for Contributions<R> {
         let marked = change;
         self.open_edges.follow(net, change);
         marked.mark_names(&mut self.stale);
-    }
-}
-
-fn put_member(set: &mut EnabledSet, v: Node, is_member: bool)
-    requires { v < length set.old }
-    ensures { set.new ≡ slice_set set.old v is_member }
-{
-    if is_member {
-        set.insert(v);
-    } else {
-        set.remove(v);
     }
 }

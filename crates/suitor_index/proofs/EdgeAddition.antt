@@ -1,5 +1,5 @@
 -- An index that is updated for an edge.
-use Rattle.suitor_index.proofs.Prelude.{◌≡◌, ◌≢◌, ℕ, ◌<◌, ◌≤◌, Bool, true, false, not, ◌&&◌, List, Option, None, nat_eq, IsTrue, refl, sym, ap, subst, ◌∙◌, arith, eq_by_cmp, eq-eqb, ne_eqb, false_from_ne_true, true≢false, or_left, and_right, eq_by_cmp_equiv, Network, pair_cmp, edge, linked, present, with_edge, without_edge, State, Registers, IsState, points, pointer, flag, pointer_of, flag_of, linked_with_other, linked_without_other, new_edge, link_refusal, pair_total, contains-insert, contains-remove, linked_comm, linked_apart, linked_present, linked_back, points_true, pointer_linked, Tally, StateView, state_of, Linked, Unlinked, WasIndexed, asks_for, tally_of, IsIndexOf, IsIndexed, one_if, IsOpenTo}
+use Rattle.suitor_index.proofs.Prelude.{◌≡◌, ◌≢◌, ℕ, ◌<◌, ◌≤◌, Bool, true, false, not, ◌&&◌, List, Option, None, nat_eq, IsTrue, refl, sym, ap, subst, ◌∙◌, arith, eq_by_cmp, eq-eqb, ne_eqb, false_from_ne_true, true≢false, or_left, and_right, eq_by_cmp_equiv, Network, pair_cmp, edge, linked, present, with_edge, without_edge, State, Registers, IsState, points, pointer, flag, pointer_of, flag_of, linked_with_other, linked_without_other, new_edge, link_refusal, pair_total, contains-insert, contains-remove, linked_comm, linked_apart, linked_present, linked_back, points_true, pointer_linked, Tally, StateView, state_of, Linked, Unlinked, WasIndexed, asks_for, tally_of, IsIndexOf, IsIndexed, one_if, IsTurned}
 use Rattle.suitor_index.proofs.OtherTallies.{tally_small}
 use Rattle.suitor_index.proofs.Ends.{IsEdgeMore, end_of, tally_more, index_more, index_less}
 
@@ -98,24 +98,11 @@ end_counted above opens net more r a b start e index counts =
     omega (arith, now, end_here above opens r a b counts, x)
 
 -- a place that does not pass is as it was
-open_still : (p : ℕ → Bool) (a b : List Tally) (w : ℕ) → IsOpenTo p a b → p w ≡ false → (tally_of b w).reached ≡ (tally_of a w).reached
-open_still p a b w told fails =
+still : (p : ℕ → Bool) (was is : Bool) (a b : List Tally) (w : ℕ) → IsTurned p was is a b → p w ≡ false → (tally_of b w).reached ≡ (tally_of a w).reached
+still p was is a b w told fails =
     let now = told.reached w in
     let none : one_if (p w) ≡ 0 = ap one_if fails in
-    omega arith
-
--- after the first end is updated, the other is as it was
-half_room : (above : Bool) (opens : Option ℕ → Bool → Bool) (net more : Network) (r : Registers) (a b : ℕ) (start half : List Tally) → IsEdgeMore net more r a b → IsIndexOf above opens (state_of net r) start → net.size ≤ 65535 → IsOpenTo (end_of above opens r b a) start half → (asks_for above b a && opens (pointer_of r a) (flag_of r a)) ≡ true → (tally_of half b).reached < 65535
-half_room above opens net more r a b start half e index few told counts =
-    let same = open_still (end_of above opens r b a) start half b told (end_elsewhere above opens r a b b (λ same. e.apart (sym same))) in
-    let room = end_room above opens net more r b a start (edge_swapped net more r a b e) index few counts in
-    omega (arith, same, room)
-
-half_counted : (above : Bool) (opens : Option ℕ → Bool → Bool) (net more : Network) (r : Registers) (a b : ℕ) (start half : List Tally) → IsEdgeMore net more r a b → IsIndexOf above opens (state_of more r) start → IsOpenTo (end_of above opens r a b) half start → (asks_for above a b && opens (pointer_of r b) (flag_of r b)) ≡ true → 1 ≤ (tally_of half a).reached
-half_counted above opens net more r a b start half e index told counts =
-    let same = open_still (end_of above opens r a b) half start a told (end_elsewhere above opens r b a a e.apart) in
-    let counted = end_counted above opens net more r a b start e index counts in
-    omega (arith, same, counted)
+    grind arith
 
 -- ---- an edge that was added
 
@@ -132,12 +119,16 @@ first_room above opens start now a b told =
     let from = linked_from above opens start now a b told in
     end_room above opens told.0.state.network now.state.network now.state.registers a b start from.0 from.1 told.1.1.few
 
-pub second_room : (above : Bool) (opens : Option ℕ → Bool → Bool) (start : List Tally) (now : StateView) (a b : ℕ) (told : WasIndexed above opens start (Linked a b) now) (half : List Tally) → IsOpenTo (end_of above opens now.state.registers b a) start half → (asks_for above b a && opens (pointer now.state a) (flag now.state a)) ≡ true → (tally_of half b).reached < 65535
-second_room above opens start now a b told half one =
+pub second_room : (above : Bool) (opens : Option ℕ → Bool → Bool) (start : List Tally) (now : StateView) (a b : ℕ) (told : WasIndexed above opens start (Linked a b) now) (half : List Tally) → IsTurned (end_of above opens now.state.registers b a) false true start half → (asks_for above b a && opens (pointer now.state a) (flag now.state a)) ≡ true → (tally_of half b).reached < 65535
+second_room above opens start now a b told half one counts =
     let from = linked_from above opens start now a b told in
-    half_room above opens told.0.state.network now.state.network now.state.registers a b start half from.0 from.1 told.1.1.few one
+    let n = told.0.state.network in
+    let u = now.state in
+    let same = still (end_of above opens u.registers b a) false true start half b one (end_elsewhere above opens u.registers a b b (λ same. from.0.apart (sym same))) in
+    let room = end_room above opens n u.network u.registers b a start (edge_swapped n u.network u.registers a b from.0) from.1 told.1.1.few counts in
+    omega (arith, same, room)
 
-pub linked_index : (above : Bool) (opens : Option ℕ → Bool → Bool) (start : List Tally) (now : StateView) (a b : ℕ) (told : WasIndexed above opens start (Linked a b) now) (half done : List Tally) → IsOpenTo (end_of above opens now.state.registers b a) start half → IsOpenTo (end_of above opens now.state.registers a b) half done → IsIndexed above opens now.state done
+pub linked_index : (above : Bool) (opens : Option ℕ → Bool → Bool) (start : List Tally) (now : StateView) (a b : ℕ) (told : WasIndexed above opens start (Linked a b) now) (half done : List Tally) → IsTurned (end_of above opens now.state.registers b a) false true start half → IsTurned (end_of above opens now.state.registers a b) false true half done → IsIndexed above opens now.state done
 linked_index above opens start now a b told half done one two =
     let from = linked_from above opens start now a b told in
     record {
@@ -166,12 +157,15 @@ first_counted above opens start now a b told =
     let from = unlinked_from above opens start now a b told in
     end_counted above opens u.network n u.registers b a start (edge_swapped u.network n u.registers a b from.0) from.1
 
-pub second_counted : (above : Bool) (opens : Option ℕ → Bool → Bool) (start : List Tally) (now : StateView) (a b : ℕ) (told : WasIndexed above opens start (Unlinked a b) now) (half : List Tally) → IsOpenTo (end_of above opens now.state.registers a b) half start → (asks_for above a b && opens (pointer now.state b) (flag now.state b)) ≡ true → 1 ≤ (tally_of half a).reached
-second_counted above opens start now a b told half one =
+pub second_counted : (above : Bool) (opens : Option ℕ → Bool → Bool) (start : List Tally) (now : StateView) (a b : ℕ) (told : WasIndexed above opens start (Unlinked a b) now) (half : List Tally) → IsTurned (end_of above opens now.state.registers a b) true false start half → (asks_for above a b && opens (pointer now.state b) (flag now.state b)) ≡ true → 1 ≤ (tally_of half a).reached
+second_counted above opens start now a b told half one counts =
     let from = unlinked_from above opens start now a b told in
-    half_counted above opens now.state.network told.0.state.network now.state.registers a b start half from.0 from.1 one
+    let r = now.state.registers in
+    let same = still (end_of above opens r a b) true false start half a one (end_elsewhere above opens r b a a from.0.apart) in
+    let counted = end_counted above opens now.state.network told.0.state.network r a b start from.0 from.1 counts in
+    omega (arith, same, counted)
 
-pub unlinked_index : (above : Bool) (opens : Option ℕ → Bool → Bool) (start : List Tally) (now : StateView) (a b : ℕ) (told : WasIndexed above opens start (Unlinked a b) now) (half done : List Tally) → IsOpenTo (end_of above opens now.state.registers a b) half start → IsOpenTo (end_of above opens now.state.registers b a) done half → IsIndexed above opens now.state done
+pub unlinked_index : (above : Bool) (opens : Option ℕ → Bool → Bool) (start : List Tally) (now : StateView) (a b : ℕ) (told : WasIndexed above opens start (Unlinked a b) now) (half done : List Tally) → IsTurned (end_of above opens now.state.registers a b) true false start half → IsTurned (end_of above opens now.state.registers b a) true false half done → IsIndexed above opens now.state done
 unlinked_index above opens start now a b told half done one two =
     let from = unlinked_from above opens start now a b told in
     record {

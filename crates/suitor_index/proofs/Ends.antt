@@ -1,5 +1,5 @@
 -- What an edge changes in the counts of its two ends.
-use Rattle.suitor_index.proofs.Prelude.{◌≡◌, ◌≢◌, ℕ, ◌+◌, ◌%◌, Bool, true, false, cond, ◌&&◌, List, Option, nat_eq, IsTrue, sym, ap, ◌∙◌, ⊎_elim, arith, sum_by, cases_eq, eq-eqb, ne_eqb, Network, linked, neighbours, present, Registers, points, pointer_of, flag_of, Tally, state_of, asks_for, tally_of, tally_at, IsIndexOf, one_if, IsOpenTo}
+use Rattle.suitor_index.proofs.Prelude.{◌≡◌, ◌≢◌, ℕ, ◌+◌, ◌%◌, Bool, true, false, cond, ◌&&◌, List, Option, nat_eq, IsTrue, sym, ap, ◌∙◌, ⊎_elim, arith, sum_by, cases_eq, eq-eqb, ne_eqb, Network, linked, neighbours, present, Registers, points, pointer_of, flag_of, Tally, state_of, asks_for, tally_of, tally_at, IsIndexOf, one_if, IsTurned}
 use Rattle.suitor_index.proofs.NeighbourSums.{term, near_turn, near_same}
 use Rattle.suitor_index.proofs.OpenTargets.{open_is}
 use Rattle.suitor_index.proofs.OtherTallies.{names_at, tally_is}
@@ -99,7 +99,7 @@ tally_more above opens net more r a b k e =
     }
 
 -- updated for the edge at both ends, the tallies are those of the state with it
-pub index_more : (above : Bool) (opens : Option ℕ → Bool → Bool) (net more : Network) (r : Registers) (a b : ℕ) (start half done : List Tally) → IsEdgeMore net more r a b → IsIndexOf above opens (state_of net r) start → IsOpenTo (end_of above opens r b a) start half → IsOpenTo (end_of above opens r a b) half done → IsIndexOf above opens (state_of more r) done
+pub index_more : (above : Bool) (opens : Option ℕ → Bool → Bool) (net more : Network) (r : Registers) (a b : ℕ) (start half done : List Tally) → IsEdgeMore net more r a b → IsIndexOf above opens (state_of net r) start → IsTurned (end_of above opens r b a) false true start half → IsTurned (end_of above opens r a b) false true half done → IsIndexOf above opens (state_of more r) done
 index_more above opens net more r a b start half done e index one two = record {
   places = two.places ∙ one.places ∙ index.places ∙ ap (λ n. n + 1) e.size;
   counted = λ k has.
@@ -113,15 +113,15 @@ index_more above opens net more r a b start half done e index one two = record {
 }
 
 -- and updated for its removal, those of the state without it
-pub index_less : (above : Bool) (opens : Option ℕ → Bool → Bool) (net more : Network) (r : Registers) (a b : ℕ) (start half done : List Tally) → IsEdgeMore net more r a b → IsIndexOf above opens (state_of more r) start → IsOpenTo (end_of above opens r a b) half start → IsOpenTo (end_of above opens r b a) done half → IsIndexOf above opens (state_of net r) done
-index_less above opens net more r a b start half done e index two one = record {
-  places = sym one.places ∙ sym two.places ∙ index.places ∙ ap (λ n. n + 1) (sym e.size);
+pub index_less : (above : Bool) (opens : Option ℕ → Bool → Bool) (net more : Network) (r : Registers) (a b : ℕ) (start half done : List Tally) → IsEdgeMore net more r a b → IsIndexOf above opens (state_of more r) start → IsTurned (end_of above opens r a b) true false start half → IsTurned (end_of above opens r b a) true false half done → IsIndexOf above opens (state_of net r) done
+index_less above opens net more r a b start half done e index one two = record {
+  places = two.places ∙ one.places ∙ index.places ∙ ap (λ n. n + 1) (sym e.size);
   counted = λ k has.
       let t = tally_more above opens net more r a b k e in
       let was = index.counted k (sym (e.here k) ∙ has) in
       tally_is (tally_of done k) (tally_at above opens (state_of net r) k)
-      (sym (one.suitors k) ∙ sym (two.suitors k) ∙ ap (λ (x : Tally). x.suitors) was ∙ t.suitors)
+      (two.suitors k ∙ one.suitors k ∙ ap (λ (x : Tally). x.suitors) was ∙ t.suitors)
       (let p = two.reached k in let q = one.reached k in let x = ap (λ (x : Tally). x.reached) was in let y = t.reached in omega (arith, p, q, x, y))
-      (ap (λ n. n % 65536) (sym (one.sum k) ∙ sym (two.sum k)) ∙ ap (λ (x : Tally). x.sum) was ∙ t.sum)
-      (sym (one.aims k) ∙ sym (two.aims k) ∙ ap (λ (x : Tally). x.pointer) was);
+      (ap (λ n. n % 65536) (two.sum k ∙ one.sum k) ∙ ap (λ (x : Tally). x.sum) was ∙ t.sum)
+      (two.aims k ∙ one.aims k ∙ ap (λ (x : Tally). x.pointer) was);
 }

@@ -36,6 +36,6 @@ pub use Rattle.rule_machine.specs.State.{State, IsState, suits, has_suitor, firs
 pub use Rattle.rule_machine.specs.LocalViews.{is_reached, asks_for}
 pub use Rattle.suitor_index.specs.PriorIndexes.{WasIndexed}
 pub use Rattle.suitor_index.specs.Tallies.{IsIndexed, suitor_count, tally_at, name_if, IsLoneSuitor, tally_of, IsIndexOf, empty_tally, reduced}
-pub use Rattle.suitor_index.specs.TallyChanges.{one_if, IsOpenTo, CanTurn, IsTurned, AddsSuitor, IsAimed, IsRepointed, HasSuitor, HasTallyRoom, HasNoneAlone, is_null_with_none_but}
+pub use Rattle.suitor_index.specs.TallyChanges.{one_if, CanTurn, IsTurned, AddsSuitor, IsAimed, IsRepointed, HasSuitor, HasTallyRoom, HasNoneAlone, is_null_with_none_but}
 pub use Rattle.suitor_index.specs.TurnedGuards.{may_turn, turns_with, TurnsNoneWith}
 pub use Rattle.suitor_index.specs.declared.tally.Tally.{Tally}

@@ -1,4 +1,5 @@
 -- Sums and counts over a list.
+use Rattle.machine_laws.proofs.ListCounts.{count_cons}
 use Rattle.suitor_index.proofs.Prelude.{◌≡◌, ◌≢◌, ℕ, zero, suc, ◌+◌, ◌<◌, ◌≤◌, Bool, true, false, cond, List, [], ◌∷◌, reverse, filter, find, Option, Some, None, is_some, nat_lt, refl, sym, ap, ◌∙◌, ⊎_elim, arith, sum_by, count_by, range_with_len, cases_eq, lt-ltb, sum_by-cons, IsPermutation-reverse, sum_by-IsPermutation, name_if}
 
 filter_step : (f : ℕ → ℕ) (x : ℕ) (kept : List ℕ) (n : ℕ) (b : Bool) → sum_by f kept ≡ n → sum_by f (cond b (x ∷ kept) kept) ≡ cond b (f x) 0 + n
@@ -45,9 +46,6 @@ sum_ones f a (suc n) few =
     let rest = sum_ones f (a + 1) n (λ x low high. few x (omega arith) (omega arith)) in
     omega (arith, one, here, rest)
 
-pub count-cons : (p : ℕ → Bool) (x : ℕ) (xs : List ℕ) → count_by p (x ∷ xs) ≡ cond (p x) 1 0 + count_by p xs
-count-cons p x xs = sum_by-cons (λ y. cond (p y) 1 0) x xs
-
 some_step : (b : Bool) (x n : ℕ) (o : Option ℕ) → nat_lt 0 n ≡ is_some o → nat_lt 0 (cond b 1 0 + n) ≡ is_some (cond b (Some x) o)
 some_step true x n o rest = lt-ltb 0 (1 + n) (omega arith)
 some_step false x n o rest = ap (nat_lt 0) (let e : 0 + n ≡ n = omega arith in e) ∙ rest
@@ -55,7 +53,7 @@ some_step false x n o rest = ap (nat_lt 0) (let e : 0 + n ≡ n = omega arith in
 -- a search finds something exactly if the count is not 0
 pub count_some : (p : ℕ → Bool) (xs : List ℕ) → nat_lt 0 (count_by p xs) ≡ is_some (find p xs)
 count_some p [] = refl
-count_some p (x ∷ xs) = ap (nat_lt 0) (count-cons p x xs) ∙ some_step (p x) x (count_by p xs) (find p xs) (count_some p xs)
+count_some p (x ∷ xs) = ap (nat_lt 0) (count_cons p x xs) ∙ some_step (p x) x (count_by p xs) (find p xs) (count_some p xs)
 
 none_step : (b : Bool) (x n : ℕ) (o : Option ℕ) → cond b 1 0 + n ≡ 0 → (n ≡ 0 → o ≡ None) → cond b (Some x) o ≡ None
 none_step true x n o none rest = absurd (omega (arith, none))
@@ -63,7 +61,7 @@ none_step false x n o none rest = rest (omega (arith, none))
 
 pub count_none : (p : ℕ → Bool) (xs : List ℕ) → count_by p xs ≡ 0 → find p xs ≡ None
 count_none p [] none = refl
-count_none p (x ∷ xs) none = none_step (p x) x (count_by p xs) (find p xs) (sym (count-cons p x xs) ∙ none) (count_none p xs)
+count_none p (x ∷ xs) none = none_step (p x) x (count_by p xs) (find p xs) (sym (count_cons p x xs) ∙ none) (count_none p xs)
 
 names_step : (b : Bool) (x n m : ℕ) → cond b 1 0 + n ≡ 0 → (n ≡ 0 → m ≡ 0) → cond b x 0 + m ≡ 0
 names_step true x n m none rest = absurd (omega (arith, none))
@@ -72,7 +70,7 @@ names_step false x n m none rest = let e = rest (omega (arith, none)) in omega (
 -- if none passes, no name is added
 names_none : (p : ℕ → Bool) (xs : List ℕ) → count_by p xs ≡ 0 → sum_by (name_if p) xs ≡ 0
 names_none p [] none = refl
-names_none p (x ∷ xs) none = sum_by-cons (name_if p) x xs ∙ names_step (p x) x (count_by p xs) (sum_by (name_if p) xs) (sym (count-cons p x xs) ∙ none) (names_none p xs)
+names_none p (x ∷ xs) none = sum_by-cons (name_if p) x xs ∙ names_step (p x) x (count_by p xs) (sum_by (name_if p) xs) (sym (count_cons p x xs) ∙ none) (names_none p xs)
 
 one_step : (b : Bool) (x n m : ℕ) (o : Option ℕ) → cond b 1 0 + n ≡ 1 → (n ≡ 0 → m ≡ 0) → (n ≡ 1 → o ≡ Some m) → cond b (Some x) o ≡ Some (cond b x 0 + m)
 one_step true x n m o one none rest = let e = none (omega (arith, one)) in ap Some (omega (arith, e))
@@ -82,7 +80,7 @@ one_step false x n m o one none rest = rest (omega (arith, one)) ∙ ap Some (om
 pub count_one : (p : ℕ → Bool) (xs : List ℕ) → count_by p xs ≡ 1 → find p xs ≡ Some (sum_by (name_if p) xs)
 count_one p [] one = absurd (let e : 0 ≡ 1 = one in omega arith)
 count_one p (x ∷ xs) one =
-    one_step (p x) x (count_by p xs) (sum_by (name_if p) xs) (find p xs) (sym (count-cons p x xs) ∙ one) (names_none p xs) (count_one p xs)
+    one_step (p x) x (count_by p xs) (sum_by (name_if p) xs) (find p xs) (sym (count_cons p x xs) ∙ one) (names_none p xs) (count_one p xs)
     ∙ ap Some (sym (sum_by-cons (name_if p) x xs))
 
 -- the count is the same from the end

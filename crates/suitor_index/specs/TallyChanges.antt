@@ -17,14 +17,6 @@ pub record AddsSuitor (pointer : Option ℕ) (v : ℕ) (without has : List Tally
   pub reached : (k : ℕ) → (tally_of has k).reached ≡ (tally_of without k).reached
   pub aims : (k : ℕ) → (tally_of has k).pointer ≡ (tally_of without k).pointer
 
--- at each place that passes the test, the second table counts one open node more than the first
-pub record IsOpenTo (near : ℕ → Bool) (without has : List Tally) : Type 0 where
-  pub places : length has ≡ length without
-  pub suitors : (k : ℕ) → (tally_of has k).suitors ≡ (tally_of without k).suitors
-  pub sum : (k : ℕ) → (tally_of has k).sum ≡ (tally_of without k).sum
-  pub reached : (k : ℕ) → (tally_of has k).reached ≡ (tally_of without k).reached + one_if (near k)
-  pub aims : (k : ℕ) → (tally_of has k).pointer ≡ (tally_of without k).pointer
-
 -- the counts may include a suitor
 abbrev pub HasSuitor : Tally → Type 0
 HasSuitor t = 1 ≤ t.suitors

@@ -9,11 +9,11 @@ ghost use Rattle.rule_machine.specs.State.{pointer, flag};
 ghost use Rattle.suitor_index.specs.PriorIndexes.{WasIndexed};
 ghost use Rattle.rule_machine.specs.LocalViews.{asks_for};
 ghost use Rattle.suitor_index.specs.Tallies.{tally_of, IsIndexed};
-ghost use Rattle.suitor_index.specs.TallyChanges.{IsOpenTo};
+ghost use Rattle.suitor_index.specs.TallyChanges.{CanTurn, IsTurned};
 ghost use Rattle.suitor_index.specs.TurnedGuards.{TurnsNone};
 
 use crate::Suitors;
-use crate::table::{aim, close_at, court, leave, open_at, turn};
+use crate::table::{aim, court, leave, turn, turn_at};
 use crate::tally::{Tally, lone_tally};
 use net_state::{Change, NetState, Observer};
 use rule_machine::{Node, Rules, asks_for};
@@ -111,7 +111,6 @@ fn flagged<R: Rules>(tallies: &mut [Tally], net: &NetState, v: Node, was: bool, 
     turn::<R>(tallies, net.neighbours(v), v, was_open, is_open)
 }
 
-/// Cost: at most one changed count at each end.
 fn linked<R: Rules>(tallies: &mut [Tally], net: &NetState, a: Node, b: Node)
     requires told { WasIndexed R.COURTS_HIGHER_ONLY R.table.opens tallies.old (Linked a b) net.now }
     requires places { length tallies.old ≡ net.now.state.network.size + 1 }
@@ -119,11 +118,10 @@ fn linked<R: Rules>(tallies: &mut [Tally], net: &NetState, a: Node, b: Node)
     requires has_b { IsTrue (present net.now.state.network b) }
     ensures { IsIndexed R.COURTS_HIGHER_ONLY R.table.opens net.now.state tallies.new }
 {
-    count_end::<R>(tallies, a, b, net);
-    count_end::<R>(tallies, b, a, net);
+    count_end::<R>(tallies, a, b, net, false, true);
+    count_end::<R>(tallies, b, a, net, false, true);
 }
 
-/// Cost: at most one changed count at each end.
 fn unlinked<R: Rules>(tallies: &mut [Tally], net: &NetState, a: Node, b: Node)
     requires told { WasIndexed R.COURTS_HIGHER_ONLY R.table.opens tallies.old (Unlinked a b) net.now }
     requires places { length tallies.old ≡ net.now.state.network.size + 1 }
@@ -131,8 +129,8 @@ fn unlinked<R: Rules>(tallies: &mut [Tally], net: &NetState, a: Node, b: Node)
     requires has_b { IsTrue (present net.now.state.network b) }
     ensures { IsIndexed R.COURTS_HIGHER_ONLY R.table.opens net.now.state tallies.new }
 {
-    discount_end::<R>(tallies, b, a, net);
-    discount_end::<R>(tallies, a, b, net);
+    count_end::<R>(tallies, b, a, net, true, false);
+    count_end::<R>(tallies, a, b, net, true, false);
 }
 
 fn joined<R: Rules>(tallies: &mut [Tally], net: &NetState, v: Node)
@@ -144,30 +142,16 @@ fn joined<R: Rules>(tallies: &mut [Tally], net: &NetState, v: Node)
     tallies[v.place()] = lone_tally(None);
 }
 
-/// Adds 1 to the count of `w` if `v` is open and the guard of `w` asks for `v`.
-fn count_end<R: Rules>(tallies: &mut [Tally], w: Node, v: Node, net: &NetState)
+/// Updates the count of `w` for its edge to `v`: `was` and `is` are whether the edge was there and is there.
+fn count_end<R: Rules>(tallies: &mut [Tally], w: Node, v: Node, net: &NetState, was: bool, is: bool)
     requires known { v ≤ net.now.state.network.size }
     requires within { w < length tallies.old }
     requires places { length tallies.old ≡ net.now.state.network.size + 1 }
     requires aimed { (tally_of tallies.old v).pointer ≡ pointer net.now.state v }
-    requires room { (asks_for R.COURTS_HIGHER_ONLY w v && R.table.opens (pointer net.now.state v) (flag net.now.state v)) ≡ true → (tally_of tallies.old w).reached < 65535 }
-    ensures { IsOpenTo (λ k. (asks_for R.COURTS_HIGHER_ONLY w v && R.table.opens (pointer net.now.state v) (flag net.now.state v)) && nat_eq k w) tallies.old tallies.new }
+    requires turns { (asks_for R.COURTS_HIGHER_ONLY w v && R.table.opens (pointer net.now.state v) (flag net.now.state v)) ≡ true → CanTurn was is (tally_of tallies.old w) }
+    ensures { IsTurned (λ k. (asks_for R.COURTS_HIGHER_ONLY w v && R.table.opens (pointer net.now.state v) (flag net.now.state v)) && nat_eq k w) was is tallies.old tallies.new }
 {
     if asks_for::<R>(w, v) && R::opens(tallies[v.place()].pointer.target(), net.flag(v)) {
-        open_at(tallies, w);
-    }
-}
-
-/// Subtracts 1 from the count of `w` if `v` is open and the guard of `w` asks for `v`.
-fn discount_end<R: Rules>(tallies: &mut [Tally], w: Node, v: Node, net: &NetState)
-    requires known { v ≤ net.now.state.network.size }
-    requires within { w < length tallies.old }
-    requires places { length tallies.old ≡ net.now.state.network.size + 1 }
-    requires aimed { (tally_of tallies.old v).pointer ≡ pointer net.now.state v }
-    requires counted { (asks_for R.COURTS_HIGHER_ONLY w v && R.table.opens (pointer net.now.state v) (flag net.now.state v)) ≡ true → 1 ≤ (tally_of tallies.old w).reached }
-    ensures { IsOpenTo (λ k. (asks_for R.COURTS_HIGHER_ONLY w v && R.table.opens (pointer net.now.state v) (flag net.now.state v)) && nat_eq k w) tallies.new tallies.old }
-{
-    if asks_for::<R>(w, v) && R::opens(tallies[v.place()].pointer.target(), net.flag(v)) {
-        close_at(tallies, w);
+        turn_at(tallies, w, was, is);
     }
 }

@@ -86,13 +86,11 @@ impl<'a, R: Rules> IndexedNet<'a, R> {
         ensures state { result.state ≡ self.now }
         ensures node { result.node ≡ node }
     {
-        NodeView::new(
-            IndexedNet {
-                net: self.net,
-                suitors: self.suitors,
-            },
-            node,
-        )
+        let state = IndexedNet {
+            net: self.net,
+            suitors: self.suitors,
+        };
+        NodeView { state, node }
     }
 
     /// Whether a node's pointer and flag make it open to a seduction.

@@ -1,6 +1,6 @@
 //! What is visible at a node.
 
-ghost use Rattle.std.specs.Prelude.{◌≡◌, IsTrue};
+ghost use Rattle.std.specs.Prelude.{IsTrue};
 ghost use Rattle.rule_machine.specs.Network.{present};
 ghost use Rattle.rule_machine.specs.State.{pointer, flag, first_suitor, has_suitor, married};
 ghost use Rattle.rule_machine.specs.RuleTable.{is_open, first_open, last_open_above};
@@ -11,19 +11,9 @@ use rule_machine::{Local, Node, Rules};
 /// The registers around one node of a network, and the counts there.
 #[derive(Drop)]
 pub struct NodeView<'a, R: Rules> {
-    state: IndexedNet<'a, R>,
-    node: Node,
+    pub(crate) state: IndexedNet<'a, R>,
+    pub(crate) node: Node,
     ghost is_present: { IsTrue (present state.state.network node) },
-}
-
-impl<'a, R: Rules> NodeView<'a, R> {
-    pub(crate) fn new(state: IndexedNet<'a, R>, node: Node) -> Self
-        requires is_present { IsTrue (present state.state.network node) }
-        ensures node { result.node ≡ node }
-        ensures state { result.state ≡ state.entry }
-    {
-        NodeView { state, node }
-    }
 }
 
 impl<R: Rules> Local for NodeView<'_, R> {

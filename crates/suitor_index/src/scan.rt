@@ -1,13 +1,11 @@
 //! Scans of a node's neighbours.
 
-ghost use Rattle.std.specs.Prelude.{◌≡◌, ◌≤◌, ◌&&◌, All, find, nat_lt, reverse, IsTrue};
-ghost use Rattle.rule_machine.specs.LocalViews.{asks_for};
+ghost use Rattle.std.specs.Prelude.{◌≡◌, ◌&&◌, All, find, nat_lt, reverse, IsTrue};
 ghost use Rattle.rule_machine.specs.Network.{present};
 ghost use Rattle.rule_machine.specs.State.{points, pointer, flag};
 
 use crate::IndexedNet;
-use net_state::NetState;
-use rule_machine::{Node, Rules, asks_for};
+use rule_machine::{Node, Rules};
 
 pub(crate) fn first_pointing_at<R: Rules>(
     nodes: &[Node],
@@ -23,14 +21,6 @@ pub(crate) fn first_pointing_at<R: Rules>(
         }
     }
     None
-}
-
-/// Whether `w` is open and the guard of `v` asks for `w`.
-pub(crate) fn is_reached<R: Rules>(net: &NetState, v: Node, w: Node) -> bool
-    requires known { w ≤ net.now.state.network.size }
-    ensures { result ≡ (asks_for R.COURTS_HIGHER_ONLY v w && R.table.opens (pointer net.now.state w) (flag net.now.state w)) }
-{
-    asks_for::<R>(v, w) && R::opens(net.pointer(w), net.flag(w))
 }
 
 pub(crate) fn first_open<R: Rules>(nodes: &[Node], net: &IndexedNet<'_, R>) -> Option<Node>

@@ -8,13 +8,11 @@ ghost use Rattle.suitor_index.specs.Tallies.{reduced, tally_at};
 ghost use Rattle.suitor_index.specs.TallyChanges.{HasTallyRoom, one_if};
 
 use crate::Suitors;
-use crate::scan::is_reached;
 use crate::tally::{Tally, lone_tally};
 use net_state::{NetState, Observer};
-use rule_machine::{Node, Rules, Want};
+use rule_machine::{Node, Rules, Want, asks_for};
 use std::alloc::Global;
 
-/// Counts one neighbour `w` of `v`.
 fn count_neighbour<R: Rules>(tally: &mut Tally, net: &NetState, v: Node, w: Node)
     requires known { w ≤ net.now.state.network.size }
     requires room { HasTallyRoom tally.old }
@@ -28,12 +26,11 @@ fn count_neighbour<R: Rules>(tally: &mut Tally, net: &NetState, v: Node, w: Node
         tally.suitors += 1;
         tally.sum = tally.sum.wrapping_add(w.name() as u16);
     }
-    if is_reached::<R>(net, v, w) {
+    if asks_for::<R>(v, w) && R::opens(net.pointer(w), net.flag(w)) {
         tally.reached += 1;
     }
 }
 
-/// The tally of a node, counted among the node's neighbours.
 fn count_at<R: Rules>(net: &NetState, v: Node) -> Tally
     requires { IsTrue (present net.now.state.network v) }
     ensures { reduced result ≡ tally_at R.COURTS_HIGHER_ONLY R.table.opens net.now.state v }

@@ -1,12 +1,12 @@
 //! Updates of a table of tallies, one for each name, when one node changes.
 
-ghost use Rattle.std.specs.Prelude.{◌≡◌, ℕ, ◌+◌, ◌<◌, ◌≤◌, ◌&&◌, cond, false, not, true, IfSome, length, nat_eq};
+ghost use Rattle.std.specs.Prelude.{◌≡◌, ℕ, ◌+◌, ◌<◌, ◌&&◌, cond, false, not, true, IfSome, length, nat_eq};
 ghost use Rattle.std.specs.Bool.{beq};
 ghost use Rattle.std.specs.List.{list_any};
 ghost use Rattle.std.specs.List.Sorted.{IsStrictlyIncreasing};
 ghost use Rattle.rule_machine.specs.LocalViews.{asks_for};
 ghost use Rattle.suitor_index.specs.Tallies.{tally_of};
-ghost use Rattle.suitor_index.specs.TallyChanges.{AddsSuitor, IsAimed, IsOpenTo, HasSuitor, HasTallyRoom, CanTurn, IsTurned, HasNoneAlone, is_null_with_none_but};
+ghost use Rattle.suitor_index.specs.TallyChanges.{AddsSuitor, IsAimed, HasSuitor, HasTallyRoom, CanTurn, IsTurned, HasNoneAlone, is_null_with_none_but};
 
 use crate::tally::Tally;
 use registers::Pointer;
@@ -40,7 +40,6 @@ pub(crate) fn court(tallies: &mut [Tally], pointer: Option<Node>, v: Node)
     }
 }
 
-/// Copies a new pointer of `v`.
 pub(crate) fn aim(tallies: &mut [Tally], v: Node, target: Option<Node>)
     requires within { v < length tallies.old }
     ensures { IsAimed v target tallies.old tallies.new }
@@ -48,26 +47,6 @@ pub(crate) fn aim(tallies: &mut [Tally], v: Node, target: Option<Node>)
     let mut tally = tallies[v.place()];
     tally.pointer = Pointer::new(target);
     tallies[v.place()] = tally;
-}
-
-pub(crate) fn open_at(tallies: &mut [Tally], w: Node)
-    requires within { w < length tallies.old }
-    requires room { (tally_of tallies.old w).reached < 65535 }
-    ensures { IsOpenTo (λ k. nat_eq k w) tallies.old tallies.new }
-{
-    let mut tally = tallies[w.place()];
-    tally.reached += 1;
-    tallies[w.place()] = tally;
-}
-
-pub(crate) fn close_at(tallies: &mut [Tally], w: Node)
-    requires within { w < length tallies.old }
-    requires counted { 1 ≤ (tally_of tallies.old w).reached }
-    ensures { IsOpenTo (λ k. nat_eq k w) tallies.new tallies.old }
-{
-    let mut tally = tallies[w.place()];
-    tally.reached -= 1;
-    tallies[w.place()] = tally;
 }
 
 /// The tally of a node for which one neighbour `was` open and `is` open.
@@ -91,7 +70,7 @@ fn turned(tally: Tally, was: bool, is: bool) -> Tally
 /// Returns whether `w` then points nowhere and counts no open node but that neighbour. Reads the tally
 /// before the write alone: a read of all of it right after a write of a part waits for that write.
 #[inline(always)]
-fn turn_at(tallies: &mut [Tally], w: Node, was: bool, is: bool) -> bool
+pub(crate) fn turn_at(tallies: &mut [Tally], w: Node, was: bool, is: bool) -> bool
     requires within { w < length tallies.old }
     requires turns { CanTurn was is (tally_of tallies.old w) }
     ensures turned { IsTurned (λ k. nat_eq k w) was is tallies.old tallies.new }

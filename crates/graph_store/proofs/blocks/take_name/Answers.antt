@@ -13,25 +13,22 @@ written c =
     let part = length-take-le size (drop from c.args.pool.now) (omega (arith, rest, c.requires.room)) in
     is_written c.args.pool.now c.drop_first.new.tail from size (omega (arith, c.requires.room, c.requires.inside)) (omega (arith, part, c.drop_first.auto.tail))
 
-pub returns-clause-row : goal.returns-clause-row
-returns-clause-row c =
+pub returns : goal.returns
+returns c =
     let pool = c.args.pool.now in
     let from = c.args.start + c.args.place in
     let size = c.args.start + c.args.len - from in
     let tail = take size (drop from pool) in
     let rest = length-drop from pool in
     let part = length-take-le size (drop from pool) (omega (arith, rest, c.requires.room)) in
-    take_from_row pool (put_mid from size pool c.drop_first.new.tail) c.drop_first.new.tail c.args.start c.args.len c.args.place size c.requires.inside c.requires.room (omega (arith, c.requires.inside)) (written c)
-    (λ i lt.
-    sym (get_or-take (length tail - 1) c.drop_first.new.tail i 0 (omega (arith, lt, part)))
-    ∙ ap (λ l. get_or l i 0) c.drop_first.ensures
-    ∙ get_or-drop 1 tail i 0
-    ∙ get_or-take size (drop from pool) (1 + i) 0 (omega (arith, lt))
-    ∙ get_or-drop from pool (1 + i) 0
-    ∙ ap (λ k. get_or pool k 0) (let e : from + (1 + i) ≡ from + (i + 1) = omega arith in e))
-
-pub returns-clause-others : goal.returns-clause-others
-returns-clause-others c s n apart =
-    let from = c.args.start + c.args.place in
-    let size = c.args.start + c.args.len - from in
-    apart_same c.args.pool.now (put_mid from size c.args.pool.now c.drop_first.new.tail) c.drop_first.new.tail from size c.args.start c.args.len s n (written c) (omega arith) (omega (arith, c.requires.inside)) apart
+    record {
+      row = take_from_row pool (put_mid from size pool c.drop_first.new.tail) c.drop_first.new.tail c.args.start c.args.len c.args.place size c.requires.inside c.requires.room (omega (arith, c.requires.inside)) (written c)
+          (λ i lt.
+          sym (get_or-take (length tail - 1) c.drop_first.new.tail i 0 (omega (arith, lt, part)))
+          ∙ ap (λ l. get_or l i 0) c.drop_first.ensures
+          ∙ get_or-drop 1 tail i 0
+          ∙ get_or-take size (drop from pool) (1 + i) 0 (omega (arith, lt))
+          ∙ get_or-drop from pool (1 + i) 0
+          ∙ ap (λ k. get_or pool k 0) (let e : from + (1 + i) ≡ from + (i + 1) = omega arith in e));
+      others = λ s n apart. apart_same c.args.pool.now (put_mid from size c.args.pool.now c.drop_first.new.tail) c.drop_first.new.tail from size c.args.start c.args.len s n (written c) (omega arith) (omega (arith, c.requires.inside)) apart;
+    }

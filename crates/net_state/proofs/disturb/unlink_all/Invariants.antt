@@ -6,7 +6,7 @@ abbrev pub invariant-loop-w : goal.invariant-loop-w
 invariant-loop-w g l = record {
   here : IsTrue (present l.net.state.network l.v);
   left : after_leave l.net.state l.v ≡ after_leave l.initial.net.state l.v;
-  fits : g.O.Observer.fits l.net l.seen;
+  fits : g.O.Observer.fits l.net l.observer;
 }
 
 abbrev pub decreases-loop-w : goal.decreases-loop-w

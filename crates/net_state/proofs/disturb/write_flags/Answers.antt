@@ -29,13 +29,13 @@ loop-moved-preserved g c =
                 ∙ ap (with_flag s.registers m.node) married
                 ∙ sym (ap (flag_read_by s.registers m.node) (let same : m.act ≡ Update = search rules in same)));
             network = ap (λ n. n.state.network) w.net-is ∙ ap (λ (u : State). u.network) w.set_flag.ensures.value ∙ c.loop-moved.invariant.network;
-            fits = rw (w.net-is, w.seen-is) w.set_flag.ensures.fits;
-            stays = λ names kept. rw w.seen-is (w.set_flag.ensures.stays names (c.loop-moved.invariant.stays names kept));
+            fits = rw (w.net-is, w.observer-is) w.set_flag.ensures.fits;
+            stays = λ names kept. rw w.observer-is (w.set_flag.ensures.stays names (c.loop-moved.invariant.stays names kept));
           }
       | else-eq w ↦ record {
         rest = read_more c.args.moves.now c.loop-moved.moved-index m _ _ _ c.loop-moved-test.true c.moved-item.is c.loop-moved.invariant.rest (ap (λ n. n.state.registers) w.net-is ∙ no_flag s.registers m.node m.act (let other : m.act ≢ Update = search rules in other));
         network = ap (λ n. n.state.network) w.net-is ∙ c.loop-moved.invariant.network;
-        fits = rw (w.net-is, w.seen-is) c.loop-moved.invariant.fits;
-        stays = λ names kept. rw w.seen-is (c.loop-moved.invariant.stays names kept);
+        fits = rw (w.net-is, w.observer-is) c.loop-moved.invariant.fits;
+        stays = λ names kept. rw w.observer-is (c.loop-moved.invariant.stays names kept);
       }
     ]

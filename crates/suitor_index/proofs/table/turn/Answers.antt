@@ -27,32 +27,27 @@ loop-w-preserved g c =
           none_more c.args.was c.args.is nodes i w _ _ c.loop-w-test.true c.w-item.is c.turn_at-alone.ensures.turned (c.loop-w.invariant.none both.0) (sym c.turn_at-alone.ensures.alone ∙ both.1);
     }
 
-pub returns-then-not-asks_for-clause-turned : goal.returns-then-not-asks_for-clause-turned
-returns-then-not-asks_for-clause-turned g c =
+pub returns-then-not-asks_for : goal.returns-then-not-asks_for
+returns-then-not-asks_for g c =
     let w = c.w-item.result in
     let nodes = c.args.nodes.now in
     let i = c.loop-w.w-index in
-    turned_alike c.args.was c.args.is (λ k. list_any (nat_eq k) (take i nodes)) (λ k. list_any (nat_eq k) nodes && asks_for g.R.Rules.COURTS_HIGHER_ONLY k c.args.v) c.args.tallies.now c.loop-w.tallies
-    (λ k. asked_so_far g.R.Rules.COURTS_HIGHER_ONLY c.args.v nodes i w k c.requires.rising c.loop-w-test.true c.w-item.is (sym c.asks_for.ensures ∙ c.if-not-asks_for.true) c.loop-w.invariant.ask)
-    c.loop-w.invariant.told
+    record {
+      turned = turned_alike c.args.was c.args.is (λ k. list_any (nat_eq k) (take i nodes)) (λ k. list_any (nat_eq k) nodes && asks_for g.R.Rules.COURTS_HIGHER_ONLY k c.args.v) c.args.tallies.now c.loop-w.tallies
+          (λ k. asked_so_far g.R.Rules.COURTS_HIGHER_ONLY c.args.v nodes i w k c.requires.rising c.loop-w-test.true c.w-item.is (sym c.asks_for.ensures ∙ c.if-not-asks_for.true) c.loop-w.invariant.ask)
+          c.loop-w.invariant.told;
+      none = λ off moved. none_asked (λ k. list_any (nat_eq k) (take i nodes)) (λ k. list_any (nat_eq k) nodes && asks_for g.R.Rules.COURTS_HIGHER_ONLY k c.args.v) c.args.is c.loop-w.tallies
+          (λ k. asked_so_far g.R.Rules.COURTS_HIGHER_ONLY c.args.v nodes i w k c.requires.rising c.loop-w-test.true c.w-item.is (sym c.asks_for.ensures ∙ c.if-not-asks_for.true) c.loop-w.invariant.ask)
+          (c.loop-w.invariant.none off);
+    }
 
-pub returns-then-not-asks_for-clause-none : goal.returns-then-not-asks_for-clause-none
-returns-then-not-asks_for-clause-none g c off moved =
-    let w = c.w-item.result in
-    let nodes = c.args.nodes.now in
-    let i = c.loop-w.w-index in
-    none_asked (λ k. list_any (nat_eq k) (take i nodes)) (λ k. list_any (nat_eq k) nodes && asks_for g.R.Rules.COURTS_HIGHER_ONLY k c.args.v) c.args.is c.loop-w.tallies
-    (λ k. asked_so_far g.R.Rules.COURTS_HIGHER_ONLY c.args.v nodes i w k c.requires.rising c.loop-w-test.true c.w-item.is (sym c.asks_for.ensures ∙ c.if-not-asks_for.true) c.loop-w.invariant.ask)
-    (c.loop-w.invariant.none off)
-
-pub returns-clause-turned : goal.returns-clause-turned
-returns-clause-turned g c =
-    turned_alike c.args.was c.args.is (λ k. list_any (nat_eq k) (take c.loop-w.w-index c.args.nodes.now)) (λ k. list_any (nat_eq k) c.args.nodes.now && asks_for g.R.Rules.COURTS_HIGHER_ONLY k c.args.v) c.args.tallies.now c.loop-w.tallies
-    (asked_all g.R.Rules.COURTS_HIGHER_ONLY c.args.v c.args.nodes.now c.loop-w.w-index (omega arith) c.loop-w.invariant.ask)
-    c.loop-w.invariant.told
-
-pub returns-clause-none : goal.returns-clause-none
-returns-clause-none g c off moved =
-    none_asked (λ k. list_any (nat_eq k) (take c.loop-w.w-index c.args.nodes.now)) (λ k. list_any (nat_eq k) c.args.nodes.now && asks_for g.R.Rules.COURTS_HIGHER_ONLY k c.args.v) c.args.is c.loop-w.tallies
-    (asked_all g.R.Rules.COURTS_HIGHER_ONLY c.args.v c.args.nodes.now c.loop-w.w-index (omega arith) c.loop-w.invariant.ask)
-    (c.loop-w.invariant.none off)
+pub returns : goal.returns
+returns g c =
+    record {
+      turned = turned_alike c.args.was c.args.is (λ k. list_any (nat_eq k) (take c.loop-w.w-index c.args.nodes.now)) (λ k. list_any (nat_eq k) c.args.nodes.now && asks_for g.R.Rules.COURTS_HIGHER_ONLY k c.args.v) c.args.tallies.now c.loop-w.tallies
+          (asked_all g.R.Rules.COURTS_HIGHER_ONLY c.args.v c.args.nodes.now c.loop-w.w-index (omega arith) c.loop-w.invariant.ask)
+          c.loop-w.invariant.told;
+      none = λ off moved. none_asked (λ k. list_any (nat_eq k) (take c.loop-w.w-index c.args.nodes.now)) (λ k. list_any (nat_eq k) c.args.nodes.now && asks_for g.R.Rules.COURTS_HIGHER_ONLY k c.args.v) c.args.is c.loop-w.tallies
+          (asked_all g.R.Rules.COURTS_HIGHER_ONLY c.args.v c.args.nodes.now c.loop-w.w-index (omega arith) c.loop-w.invariant.ask)
+          (c.loop-w.invariant.none off);
+    }

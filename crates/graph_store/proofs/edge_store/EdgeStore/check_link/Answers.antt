@@ -19,12 +19,13 @@ returns-then-self-ge-MAX_EDGES-clause-fault c =
     let count : edge_count c.args.self.now.network ≡ c.self.inside.edges = ap (λ (g : Graph). edge_count g.network) (sym c.self.view_is) ∙ c.self.invariant.counted in
     link_fault_is c.args.self.now.network c.args.a c.args.b false true ends.0 ends.1 ends.2 absent (le-leb 1048576 (edge_count c.args.self.now.network) (omega (arith, count, c.if-self-ge-MAX_EDGES.true)))
 
-pub returns-clause-free : goal.returns-clause-free
-returns-clause-free c =
+pub returns : goal.returns
+returns c =
     let ends = ends_known c.args.self.now.network c.args.a c.args.b c.in_ok-check_ends.ensures.ok in
     let absent = sym (c.neighbours.ensures.found c.args.b) ∙ absent_at_gap c.neighbours.result.now c.args.b c.in-Err.place c.in-Err.ensures in
     let count : edge_count c.args.self.now.network ≡ c.self.inside.edges = ap (λ (g : Graph). edge_count g.network) (sym c.self.view_is) ∙ c.self.invariant.counted in
-    link_fault_is c.args.self.now.network c.args.a c.args.b false false ends.0 ends.1 ends.2 absent (lt-leb 1048576 (edge_count c.args.self.now.network) (omega (arith, count, c.if-self-ge-MAX_EDGES.false)))
-
-pub returns-clause-gap : goal.returns-clause-gap
-returns-clause-gap c = subst (λ l. IsGapFor l c.args.b c.in-Err.place) c.neighbours.ensures.all c.in-Err.ensures
+    record {
+      free = link_fault_is c.args.self.now.network c.args.a c.args.b false false ends.0 ends.1 ends.2 absent (lt-leb 1048576 (edge_count c.args.self.now.network) (omega (arith, count, c.if-self-ge-MAX_EDGES.false)));
+      gap = subst (λ l. IsGapFor l c.args.b c.in-Err.place) c.neighbours.ensures.all c.in-Err.ensures;
+      fault = tt;
+    }

@@ -1,7 +1,7 @@
-use Rattle.graph_store.proofs.Prelude.{◌≤◌, length, arith, ap, sym, subst, ◌∙◌, [], IsTrue, IsStrictlyIncreasing, linked, present, Graph, has, get_or_past}
+use Rattle.graph_store.proofs.Prelude.{◌≡◌, ◌≤◌, length, arith, ap, sym, subst, ◌∙◌, [], true, IsStrictlyIncreasing, Graph, has, get_or_past}
 use Rattle.graph_store.proofs.Contents.{found}
-use Rattle.graph_store.proofs.Faults.{are_joined}
-use Rattle.graph_store.proofs.Store.{linked_by, linked_present}
+use Rattle.graph_store.proofs.Faults.{AreJoined, are_joined}
+use Rattle.graph_store.proofs.Store.{linked_by}
 use Rattle.graph_store.proofs.edge_store.EdgeStore.linked.Goals as goal
 
 pub returns-then-name-self-clause-value : goal.returns-then-name-self-clause-value
@@ -19,18 +19,17 @@ row-requires c =
 pub find_place-requires : goal.find_place-requires
 find_place-requires c = subst IsStrictlyIncreasing (sym c.row.ensures) (c.self.invariant.is_rows.rising c.args.a)
 
-pub returns-clause-value : goal.returns-clause-value
-returns-clause-value c =
+pub returns : goal.returns
+returns c =
+    let seen = ap (λ (g : Graph). g.network) c.self.view_is in
+    let value =
     c.is_ok.ensures.value
     ∙ found c.row.result.now c.args.b c.find_place.result c.find_place.ensures
     ∙ ap (λ l. has l c.args.b) c.row.ensures
-    ∙ linked_by c.self.inside.nodes c.self.inside.here c.self.inside.rows.lists c.args.self.now.network c.args.a c.args.b (ap (λ (g : Graph). g.network) c.self.view_is) c.self.invariant.is_rows
-
-pub returns-clause-present : goal.returns-clause-present
-returns-clause-present c h =
-    let both = linked_present c.self.inside.nodes c.self.inside.here c.self.inside.rows.lists c.args.a c.args.b c.self.invariant.is_rows (ap (λ net. linked net c.args.a c.args.b) (ap (λ (g : Graph). g.network) c.self.view_is) ∙ sym (returns-clause-value c) ∙ h) in
-    subst (λ net. IsTrue (present net c.args.a) × IsTrue (present net c.args.b)) (ap (λ (g : Graph). g.network) c.self.view_is) both
-
-pub returns-clause-apart : goal.returns-clause-apart
-returns-clause-apart c h =
-    (are_joined c.self.inside.nodes c.self.inside.here c.self.inside.rows.lists c.args.self.now.network c.args.a c.args.b (ap (λ (g : Graph). g.network) c.self.view_is) c.self.invariant.is_rows (sym (returns-clause-value c) ∙ h)).apart
+    ∙ linked_by c.self.inside.nodes c.self.inside.here c.self.inside.rows.lists c.args.self.now.network c.args.a c.args.b seen c.self.invariant.is_rows in
+    let joined : c.is_ok.result ≡ true → AreJoined c.args.self.now.network c.args.a c.args.b = λ h. are_joined c.self.inside.nodes c.self.inside.here c.self.inside.rows.lists c.args.self.now.network c.args.a c.args.b seen c.self.invariant.is_rows (sym value ∙ h) in
+    record {
+      value = value;
+      present = λ h. ((joined h).here, (joined h).there);
+      apart = λ h. (joined h).apart;
+    }

@@ -4,29 +4,23 @@ use Rattle.graph_store.proofs.Store.{neighbours_by}
 use Rattle.graph_store.proofs.Switch.{unlink_rows}
 use Rattle.graph_store.proofs.edge_store.EdgeStore.remove_edge.Goals as goal
 
-pub find_edge-place_in_b-requires : goal.find_edge-place_in_b-requires
-find_edge-place_in_b-requires c = (are_joined c.self.inside.nodes c.self.inside.here c.self.inside.rows.lists c.args.self.now.network c.args.a c.args.b (ap (λ (g : Graph). g.network) c.self.view_is) c.self.invariant.is_rows c.requires).back
+pub find_index-place_in_a-requires : goal.find_index-place_in_a-requires
+find_index-place_in_a-requires c = (are_joined c.self.inside.nodes c.self.inside.here c.self.inside.rows.lists c.args.self.now.network c.args.a c.args.b (ap (λ (g : Graph). g.network) c.self.view_is) c.self.invariant.is_rows c.requires).here
 
-pub take_both-requires-clause-apart : goal.take_both-requires-clause-apart
-take_both-requires-clause-apart c = (are_joined c.self.inside.nodes c.self.inside.here c.self.inside.rows.lists c.args.self.now.network c.args.a c.args.b (ap (λ (g : Graph). g.network) c.self.view_is) c.self.invariant.is_rows c.requires).apart
+pub find_index-place_in_b-requires : goal.find_index-place_in_b-requires
+find_index-place_in_b-requires c = (are_joined c.self.inside.nodes c.self.inside.here c.self.inside.rows.lists c.args.self.now.network c.args.a c.args.b (ap (λ (g : Graph). g.network) c.self.view_is) c.self.invariant.is_rows c.requires).there
 
-pub take_both-requires-clause-a_known : goal.take_both-requires-clause-a_known
-take_both-requires-clause-a_known c =
-    has_row c.self.inside.nodes c.self.inside.here c.self.inside.rows.lists c.args.self.now.network c.args.a (ap (λ (g : Graph). g.network) c.self.view_is) c.self.invariant.is_rows (are_joined c.self.inside.nodes c.self.inside.here c.self.inside.rows.lists c.args.self.now.network c.args.a c.args.b (ap (λ (g : Graph). g.network) c.self.view_is) c.self.invariant.is_rows c.requires).here
-
-pub take_both-requires-clause-b_known : goal.take_both-requires-clause-b_known
-take_both-requires-clause-b_known c =
-    has_row c.self.inside.nodes c.self.inside.here c.self.inside.rows.lists c.args.self.now.network c.args.b (ap (λ (g : Graph). g.network) c.self.view_is) c.self.invariant.is_rows (are_joined c.self.inside.nodes c.self.inside.here c.self.inside.rows.lists c.args.self.now.network c.args.a c.args.b (ap (λ (g : Graph). g.network) c.self.view_is) c.self.invariant.is_rows c.requires).there
-
-pub take_both-requires-clause-inside_a : goal.take_both-requires-clause-inside_a
-take_both-requires-clause-inside_a c =
+pub take_both-requires : goal.take_both-requires
+take_both-requires c =
     let row = neighbours_by c.self.inside.nodes c.self.inside.here c.self.inside.rows.lists c.args.self.now.network c.args.a (ap (λ (g : Graph). g.network) c.self.view_is) c.self.invariant.is_rows in
-    subst (λ l. c.find_edge-place_in_a.result < length l) (sym row) c.find_edge-place_in_a.ensures.0
-
-pub take_both-requires-clause-inside_b : goal.take_both-requires-clause-inside_b
-take_both-requires-clause-inside_b c =
-    let row = neighbours_by c.self.inside.nodes c.self.inside.here c.self.inside.rows.lists c.args.self.now.network c.args.b (ap (λ (g : Graph). g.network) c.self.view_is) c.self.invariant.is_rows in
-    subst (λ l. c.find_edge-place_in_b.result < length l) (sym row) c.find_edge-place_in_b.ensures.0
+    record {
+      apart = (are_joined c.self.inside.nodes c.self.inside.here c.self.inside.rows.lists c.args.self.now.network c.args.a c.args.b (ap (λ (g : Graph). g.network) c.self.view_is) c.self.invariant.is_rows c.requires).apart;
+      a_known = has_row c.self.inside.nodes c.self.inside.here c.self.inside.rows.lists c.args.self.now.network c.args.a (ap (λ (g : Graph). g.network) c.self.view_is) c.self.invariant.is_rows (are_joined c.self.inside.nodes c.self.inside.here c.self.inside.rows.lists c.args.self.now.network c.args.a c.args.b (ap (λ (g : Graph). g.network) c.self.view_is) c.self.invariant.is_rows c.requires).here;
+      b_known = has_row c.self.inside.nodes c.self.inside.here c.self.inside.rows.lists c.args.self.now.network c.args.b (ap (λ (g : Graph). g.network) c.self.view_is) c.self.invariant.is_rows (are_joined c.self.inside.nodes c.self.inside.here c.self.inside.rows.lists c.args.self.now.network c.args.a c.args.b (ap (λ (g : Graph). g.network) c.self.view_is) c.self.invariant.is_rows c.requires).there;
+      inside_a = subst (λ l. c.find_index-place_in_a.result < length l) (sym row) (c.find_index-place_in_a.ensures.place c.requires).0;
+      inside_b = let row = neighbours_by c.self.inside.nodes c.self.inside.here c.self.inside.rows.lists c.args.self.now.network c.args.b (ap (λ (g : Graph). g.network) c.self.view_is) c.self.invariant.is_rows in
+          subst (λ l. c.find_index-place_in_b.result < length l) (sym row) (c.find_index-place_in_b.ensures.place (are_joined c.self.inside.nodes c.self.inside.here c.self.inside.rows.lists c.args.self.now.network c.args.a c.args.b (ap (λ (g : Graph). g.network) c.self.view_is) c.self.invariant.is_rows c.requires).back).0;
+    }
 
 pub overflow_sub-self : goal.overflow_sub-self
 overflow_sub-self c =
@@ -42,7 +36,7 @@ unlinked_now c =
     let row_a = neighbours_by c.self.inside.nodes c.self.inside.here rows c.args.self.now.network c.args.a seen c.self.invariant.is_rows in
     let row_b = neighbours_by c.self.inside.nodes c.self.inside.here rows c.args.self.now.network c.args.b seen c.self.invariant.is_rows in
     let is = c.take_both.ensures in
-    let new = unlink_rows c.self.inside.nodes c.self.inside.here c.self.inside.edges c.args.a c.args.b c.find_edge-place_in_a.result c.find_edge-place_in_b.result rows _ c.self.invariant both.apart (known c.self.inside.nodes c.self.inside.here rows c.args.self.now.network c.args.a seen both.here) (known c.self.inside.nodes c.self.inside.here rows c.args.self.now.network c.args.b seen both.there) (subst (λ l. IsPlaceOf l c.args.b c.find_edge-place_in_a.result) (sym row_a) c.find_edge-place_in_a.ensures) (subst (λ l. IsPlaceOf l c.args.a c.find_edge-place_in_b.result) (sym row_b) c.find_edge-place_in_b.ensures) is in
+    let new = unlink_rows c.self.inside.nodes c.self.inside.here c.self.inside.edges c.args.a c.args.b c.find_index-place_in_a.result c.find_index-place_in_b.result rows _ c.self.invariant both.apart (known c.self.inside.nodes c.self.inside.here rows c.args.self.now.network c.args.a seen both.here) (known c.self.inside.nodes c.self.inside.here rows c.args.self.now.network c.args.b seen both.there) (subst (λ l. IsPlaceOf l c.args.b c.find_index-place_in_a.result) (sym row_a) (c.find_index-place_in_a.ensures.place c.requires)) (subst (λ l. IsPlaceOf l c.args.a c.find_index-place_in_b.result) (sym row_b) (c.find_index-place_in_b.ensures.place both.back)) is in
     (new.0, new.1 ∙ ap (λ net. without_edge net c.args.a c.args.b) seen)
 
 pub invariant_of-self : goal.invariant_of-self

@@ -18,56 +18,46 @@ index_mut-requires c =
     let owned = head_owned s.heads.items s.pool.items s.long.items c.args.node c.index-head.result.now c.self.invariant head c.if-head-gt-MOST_NAMES.true in
     omega (arith, owned, c.place-then-head-gt-MOST_NAMES.ensures.same)
 
-pub put_at-requires-clause-inside : goal.put_at-requires-clause-inside
-put_at-requires-clause-inside c =
+pub put_at-requires : goal.put_at-requires
+put_at-requires c =
     let s = c.self.inside in
     let seen = ap (λ (r : RowLists). r.lists) c.self.view_is in
     let head = head_read s.heads.items s.pool.items s.long.items c.args.self.now.lists c.index-head.result.now c.place.result c.args.node seen c.requires.known c.place.ensures.same c.index-head.ensures in
     let row = long_read s.heads.items s.pool.items s.long.items c.args.self.now.lists c.args.node c.place-then-head-gt-MOST_NAMES.result c.index-head.result.now c.index_mut.result.now c.self.invariant seen head c.if-head-gt-MOST_NAMES.true c.place-then-head-gt-MOST_NAMES.ensures.same c.index_mut.ensures.value in
     let inside = c.requires.inside in
-    omega (arith, ap length row, inside)
+    record {
+      inside = omega (arith, ap length row, inside);
+      room = long_spare s.heads.items s.pool.items s.long.items c.args.self.now.room c.args.node c.place-then-head-gt-MOST_NAMES.result c.index-head.result.now c.index_mut.result.now c.self.invariant (ap (λ (r : RowLists). r.room) c.self.view_is) head c.if-head-gt-MOST_NAMES.true c.place-then-head-gt-MOST_NAMES.ensures.same c.index_mut.ensures.value c.requires.room;
+    }
 
-pub put_at-requires-clause-room : goal.put_at-requires-clause-room
-put_at-requires-clause-room c =
-    let s = c.self.inside in
-    let seen = ap (λ (r : RowLists). r.lists) c.self.view_is in
-    let head = head_read s.heads.items s.pool.items s.long.items c.args.self.now.lists c.index-head.result.now c.place.result c.args.node seen c.requires.known c.place.ensures.same c.index-head.ensures in
-    long_spare s.heads.items s.pool.items s.long.items c.args.self.now.room c.args.node c.place-then-head-gt-MOST_NAMES.result c.index-head.result.now c.index_mut.result.now c.self.invariant (ap (λ (r : RowLists). r.room) c.self.view_is) head c.if-head-gt-MOST_NAMES.true c.place-then-head-gt-MOST_NAMES.ensures.same c.index_mut.ensures.value c.requires.room
-
-pub returns-then-head-gt-MOST_NAMES-clause-lists : goal.returns-then-head-gt-MOST_NAMES-clause-lists
-returns-then-head-gt-MOST_NAMES-clause-lists c =
+pub returns-then-head-gt-MOST_NAMES : goal.returns-then-head-gt-MOST_NAMES
+returns-then-head-gt-MOST_NAMES c =
     let s = c.self.inside in
     let seen = ap (λ (r : RowLists). r.lists) c.self.view_is in
     let head = head_read s.heads.items s.pool.items s.long.items c.args.self.now.lists c.index-head.result.now c.place.result c.args.node seen c.requires.known c.place.ensures.same c.index-head.ensures in
     let same = c.place-then-head-gt-MOST_NAMES.ensures.same in
     let r = c.index_mut.result.now in
-    ap (λ p. lists_of s.heads.items s.pool.items (set s.long.items p c.put_at.new.row)) same
-    ∙ long_changed s.heads.items s.pool.items s.long.items c.args.self.now.lists c.args.node c.index-head.result.now r c.put_at.new.row (λ l. insert l c.args.place c.args.name) c.self.invariant seen head c.if-head-gt-MOST_NAMES.true
-    (c.put_at.ensures ∙ ap (λ (x : Vec ℕ Global). insert x.items c.args.place c.args.name) (c.index_mut.ensures.value ∙ ap (λ k. get_or s.long.items k r) same))
+    record {
+      lists = ap (λ p. lists_of s.heads.items s.pool.items (set s.long.items p c.put_at.new.row)) same
+          ∙ long_changed s.heads.items s.pool.items s.long.items c.args.self.now.lists c.args.node c.index-head.result.now r c.put_at.new.row (λ l. insert l c.args.place c.args.name) c.self.invariant seen head c.if-head-gt-MOST_NAMES.true
+          (c.put_at.ensures ∙ ap (λ (x : Vec ℕ Global). insert x.items c.args.place c.args.name) (c.index_mut.ensures.value ∙ ap (λ k. get_or s.long.items k r) same));
+      others = λ v apart some. subst (λ p. 0 < get_or (rooms_of s.heads.items (set s.long.items p c.put_at.new.row)) v 0) (sym c.place-then-head-gt-MOST_NAMES.ensures.same)
+          (long_rooms_elsewhere s.heads.items s.pool.items s.long.items c.args.node c.put_at.new.row c.self.invariant v apart (subst (λ l. 0 < get_or l v 0) (sym (ap (λ (r : RowLists). r.room) c.self.view_is)) some));
+    }
 
-pub returns-then-head-gt-MOST_NAMES-clause-others : goal.returns-then-head-gt-MOST_NAMES-clause-others
-returns-then-head-gt-MOST_NAMES-clause-others c v apart some =
-    let s = c.self.inside in
-    subst (λ p. 0 < get_or (rooms_of s.heads.items (set s.long.items p c.put_at.new.row)) v 0) (sym c.place-then-head-gt-MOST_NAMES.ensures.same)
-    (long_rooms_elsewhere s.heads.items s.pool.items s.long.items c.args.node c.put_at.new.row c.self.invariant v apart (subst (λ l. 0 < get_or l v 0) (sym (ap (λ (r : RowLists). r.room) c.self.view_is)) some))
-
-pub put_name-requires-clause-inside : goal.put_name-requires-clause-inside
-put_name-requires-clause-inside c =
+pub put_name-requires : goal.put_name-requires
+put_name-requires c =
     let s = c.self.inside in
     let seen = ap (λ (r : RowLists). r.lists) c.self.view_is in
     let head = head_read s.heads.items s.pool.items s.long.items c.args.self.now.lists c.index-head.result.now c.place.result c.args.node seen c.requires.known c.place.ensures.same c.index-head.ensures in
     let len = short_len s.heads.items s.pool.items s.long.items c.args.self.now.lists c.args.node c.index-head.result.now c.self.invariant seen head c.if-head-gt-MOST_NAMES.false in
     let inside = c.requires.inside in
-    omega (arith, len, inside, c.from.ensures)
-
-pub put_name-requires-clause-room : goal.put_name-requires-clause-room
-put_name-requires-clause-room c =
-    let s = c.self.inside in
-    let seen = ap (λ (r : RowLists). r.lists) c.self.view_is in
-    let head = head_read s.heads.items s.pool.items s.long.items c.args.self.now.lists c.index-head.result.now c.place.result c.args.node seen c.requires.known c.place.ensures.same c.index-head.ensures in
     let room = has_room s.heads.items s.pool.items s.long.items c.args.self.now.room c.args.node c.index-head.result.now c.self.invariant (ap (λ (r : RowLists). r.room) c.self.view_is) head c.if-head-gt-MOST_NAMES.false c.requires.room in
     let block = block_inside s.heads.items s.pool.items s.long.items c.args.node c.index-head.result.now c.self.invariant head in
-    omega (arith, room.1, block, c.from.ensures, ap length c.deref_mut.ensures.value)
+    record {
+      inside = omega (arith, len, inside, c.from.ensures);
+      room = omega (arith, room.1, block, c.from.ensures, ap length c.deref_mut.ensures.value);
+    }
 
 pub index_mut-requires-2 : goal.index_mut-requires-2
 index_mut-requires-2 c =
@@ -89,27 +79,25 @@ invariant_of-self-2 c =
     subst (λ p. IsPool (set s.heads.items p (record { start = c.index-head.result.now.start; len = c.index-head.result.now.len + 1; units = c.index-head.result.now.units })) (with_items s.pool c.put_name.new.pool).items s.long.items) (sym c.place-2.ensures.same)
     (block_kept s.heads.items s.pool.items (with_items s.pool c.put_name.new.pool).items s.long.items c.args.node c.index-head.result.now (c.index-head.result.now.len + 1) c.self.invariant head same room.0 room.1)
 
-pub returns-clause-lists : goal.returns-clause-lists
-returns-clause-lists c =
+pub returns : goal.returns
+returns c =
     let s = c.self.inside in
     let seen = ap (λ (r : RowLists). r.lists) c.self.view_is in
     let head = head_read s.heads.items s.pool.items s.long.items c.args.self.now.lists c.index-head.result.now c.place.result c.args.node seen c.requires.known c.place.ensures.same c.index-head.ensures in
     let room = has_room s.heads.items s.pool.items s.long.items c.args.self.now.room c.args.node c.index-head.result.now c.self.invariant (ap (λ (r : RowLists). r.room) c.self.view_is) head c.if-head-gt-MOST_NAMES.false c.requires.room in
     let start = c.index-head.result.now.start in
     let new = (with_items s.pool c.put_name.new.pool).items in
-    ap (λ p. lists_of (set s.heads.items p (record { start = c.index-head.result.now.start; len = c.index-head.result.now.len + 1; units = c.index-head.result.now.units })) new s.long.items) c.place-2.ensures.same
-    ∙ block_changed s.heads.items s.pool.items new s.long.items c.args.self.now.lists c.args.node c.index-head.result.now (c.index-head.result.now.len + 1) (c.index-head.result.now.len + 1) (insert (row_at c.args.self.now.lists c.args.node) c.args.place c.args.name) c.self.invariant seen head room.0 room.1
-    ((λ i. names_at (now_is c i) start (sym c.from.ensures i + 1))
-    ∙ c.put_name.ensures.row
-    ∙ (λ i. insert (names_at (c.deref_mut.ensures.value i) start (c.from.ensures i)) c.args.place c.args.name)
-    ∙ ap (λ l. insert l c.args.place c.args.name) (names_seen s.heads.items s.pool.items s.long.items c.args.self.now.lists c.args.node c.index-head.result.now seen head c.if-head-gt-MOST_NAMES.false))
-    (λ from n apart.
-    ap (λ l. names_at l from n) (now_is c)
-    ∙ c.put_name.ensures.others from n (subst (λ k. AreDisjointParts from n start (k + 1)) (sym c.from.ensures) apart)
-    ∙ ap (λ l. names_at l from n) c.deref_mut.ensures.value)
-
-pub returns-clause-others : goal.returns-clause-others
-returns-clause-others c v apart some =
-    let s = c.self.inside in
-    subst (λ p. 0 < get_or (rooms_of (set s.heads.items p (record { start = c.index-head.result.now.start; len = c.index-head.result.now.len + 1; units = c.index-head.result.now.units })) s.long.items) v 0) (sym c.place-2.ensures.same)
-    (head_rooms_elsewhere s.heads.items s.long.items c.args.node (record { start = c.index-head.result.now.start; len = c.index-head.result.now.len + 1; units = c.index-head.result.now.units }) v apart (subst (λ l. 0 < get_or l v 0) (sym (ap (λ (r : RowLists). r.room) c.self.view_is)) some))
+    record {
+      lists = ap (λ p. lists_of (set s.heads.items p (record { start = c.index-head.result.now.start; len = c.index-head.result.now.len + 1; units = c.index-head.result.now.units })) new s.long.items) c.place-2.ensures.same
+          ∙ block_changed s.heads.items s.pool.items new s.long.items c.args.self.now.lists c.args.node c.index-head.result.now (c.index-head.result.now.len + 1) (c.index-head.result.now.len + 1) (insert (row_at c.args.self.now.lists c.args.node) c.args.place c.args.name) c.self.invariant seen head room.0 room.1
+          ((λ i. names_at (now_is c i) start (sym c.from.ensures i + 1))
+          ∙ c.put_name.ensures.row
+          ∙ (λ i. insert (names_at (c.deref_mut.ensures.value i) start (c.from.ensures i)) c.args.place c.args.name)
+          ∙ ap (λ l. insert l c.args.place c.args.name) (names_seen s.heads.items s.pool.items s.long.items c.args.self.now.lists c.args.node c.index-head.result.now seen head c.if-head-gt-MOST_NAMES.false))
+          (λ from n apart.
+          ap (λ l. names_at l from n) (now_is c)
+          ∙ c.put_name.ensures.others from n (subst (λ k. AreDisjointParts from n start (k + 1)) (sym c.from.ensures) apart)
+          ∙ ap (λ l. names_at l from n) c.deref_mut.ensures.value);
+      others = λ v apart some. subst (λ p. 0 < get_or (rooms_of (set s.heads.items p (record { start = c.index-head.result.now.start; len = c.index-head.result.now.len + 1; units = c.index-head.result.now.units })) s.long.items) v 0) (sym c.place-2.ensures.same)
+          (head_rooms_elsewhere s.heads.items s.long.items c.args.node (record { start = c.index-head.result.now.start; len = c.index-head.result.now.len + 1; units = c.index-head.result.now.units }) v apart (subst (λ l. 0 < get_or l v 0) (sym (ap (λ (r : RowLists). r.room) c.self.view_is)) some));
+    }

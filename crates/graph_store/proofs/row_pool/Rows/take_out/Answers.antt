@@ -38,22 +38,18 @@ returns-then-head-gt-MOST_NAMES c =
     ∙ long_changed s.heads.items s.pool.items s.long.items c.args.self.now.lists c.args.node c.index-head.result.now r c.take_at.new.row (λ l. remove l c.args.place) c.self.invariant seen head c.if-head-gt-MOST_NAMES.true
     (c.take_at.ensures ∙ ap (λ (x : Vec ℕ Global). remove x.items c.args.place) (c.index_mut.ensures.value ∙ ap (λ k. get_or s.long.items k r) same))
 
-pub take_name-requires-clause-inside : goal.take_name-requires-clause-inside
-take_name-requires-clause-inside c =
+pub take_name-requires : goal.take_name-requires
+take_name-requires c =
     let s = c.self.inside in
     let seen = ap (λ (r : RowLists). r.lists) c.self.view_is in
     let head = head_read s.heads.items s.pool.items s.long.items c.args.self.now.lists c.index-head.result.now c.place.result c.args.node seen c.requires.known c.place.ensures.same c.index-head.ensures in
     let len = short_len s.heads.items s.pool.items s.long.items c.args.self.now.lists c.args.node c.index-head.result.now c.self.invariant seen head c.if-head-gt-MOST_NAMES.false in
     let inside = c.requires.inside in
-    omega (arith, len, inside, c.from.ensures)
-
-pub take_name-requires-clause-room : goal.take_name-requires-clause-room
-take_name-requires-clause-room c =
-    let s = c.self.inside in
-    let seen = ap (λ (r : RowLists). r.lists) c.self.view_is in
-    let head = head_read s.heads.items s.pool.items s.long.items c.args.self.now.lists c.index-head.result.now c.place.result c.args.node seen c.requires.known c.place.ensures.same c.index-head.ensures in
     let lies = head_inside s.heads.items s.pool.items s.long.items c.args.node c.index-head.result.now c.self.invariant head c.if-head-gt-MOST_NAMES.false in
-    omega (arith, lies, c.from.ensures, ap length c.deref_mut.ensures.value)
+    record {
+      inside = omega (arith, len, inside, c.from.ensures);
+      room = omega (arith, lies, c.from.ensures, ap length c.deref_mut.ensures.value);
+    }
 
 pub overflow_sub-head : goal.overflow_sub-head
 overflow_sub-head c =

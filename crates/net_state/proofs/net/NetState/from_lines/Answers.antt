@@ -5,10 +5,10 @@ use Rattle.net_state.proofs.NetworkBuilding.{nobody_there, names_of, names_same,
 use Rattle.net_state.proofs.net.NetState.from_lines.Goals as goal
 
 pub join_all-requires-clause-empty : goal.join_all-requires-clause-empty
-join_all-requires-clause-empty c = λ v. ap (λ s. present s.network v) c.in_ok-net.ensures ∙ nobody_there c.args.size v
+join_all-requires-clause-empty c = λ v. ap (λ s. present s.network v) c.in-Ok.ensures.ok ∙ nobody_there c.args.size v
 
 pub link_all-requires-clause-bare : goal.link_all-requires-clause-bare
-link_all-requires-clause-bare c = ap finmap.keys (c.join_all.ensures.edges ∙ ap (λ s. s.network.edges) c.in_ok-net.ensures) ∙ nothing_listed
+link_all-requires-clause-bare c = ap finmap.keys (c.join_all.ensures.edges ∙ ap (λ s. s.network.edges) c.in-Ok.ensures.ok) ∙ nothing_listed
 
 pub returns-then-not-branch-clause-none : goal.returns-then-not-branch-clause-none
 returns-then-not-branch-clause-none c = λ none s good lines.

@@ -15,16 +15,13 @@ loop-below-preserved c =
       | in_default w ↦ grind (arith, common_steps, w.places-is, w.in_default.is, more, place, so_far)
     ]
 
-pub returns-clause-places : goal.returns-clause-places
-returns-clause-places c =
-    let s = c.args.self.now.state in
-    let count : c.loop-below.below ≡ s.network.size = omega (arith, c.capacity-below-end.ensures.size) in
-    c.loop-below.invariant ∙ ap (λ n. filter_map (place_in s) (range_with_len 1 n)) count ∙ places_found s
-
-pub returns-clause-few : goal.returns-clause-few
-returns-clause-few c =
+pub returns : goal.returns
+returns c =
     let s = c.args.self.now.state in
     let end : c.loop-below.below ≡ s.network.size = omega (arith, c.capacity-below-end.ensures.size) in
     let listed = c.loop-below.invariant ∙ ap (λ n. filter_map (place_in s) (range_with_len 1 n)) end ∙ places_found s in
-    let count : length c.loop-below.places.items ≡ node_count s.network = ap length listed ∙ length-map (names s.network) (node_record_at s) in
-    omega (arith, count, c.nodes.ensures.count, c.nodes.ensures.few)
+    record {
+      places = listed;
+      few = let count : length c.loop-below.places.items ≡ node_count s.network = ap length listed ∙ length-map (names s.network) (node_record_at s) in
+          omega (arith, count, c.nodes.ensures.count, c.nodes.ensures.few);
+    }
