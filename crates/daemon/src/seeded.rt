@@ -1,6 +1,6 @@
 //! A daemon that draws its choices from a random generator.
 
-ghost use Rattle.std.specs.Prelude.{◌≡◌, ◌↔◌, ◌≤◌, ◌%◌, nat_eq, [], ◌∷◌, length, vec_capacity, IfOk, IfSome, IsNone, OnErr};
+ghost use Rattle.std.specs.Prelude.{◌≡◌, ◌↔◌, ◌≤◌, [], ◌∷◌, length, vec_capacity, IfOk, IfSome, IsNone, OnErr};
 ghost use Rattle.enabled_set.specs.Members.{members};
 ghost use Rattle.daemon.specs.DaemonLaws.{IsLawful};
 ghost use Rattle.daemon.specs.DrawnChoices.{draw_one, draw_odd, draw_some, choice_drawn, as_choice};
@@ -30,12 +30,6 @@ fn choose_one<G: Rng>(generator: &mut G, set: &EnabledSet) -> Choice
     Choice::one(Item { node, wish: None })
 }
 
-fn is_odd(word: u32) -> bool
-    ensures { result ≡ nat_eq (word % 2) 1 }
-{
-    word % 2 == 1
-}
-
 /// Each item is written first and removed if its word is even:
 /// a branch would be mispredicted half the time.
 fn push_odd<G: Rng>(generator: &mut G, names: &[Node], items: &mut Vec<Item>)
@@ -53,7 +47,7 @@ fn push_odd<G: Rng>(generator: &mut G, names: &[Node], items: &mut Vec<Item>)
                 wish: None,
             })
             .unwrap();
-        if !is_odd(word) {
+        if word % 2 == 0 {
             items.truncate(len);
         }
     }

@@ -5,7 +5,7 @@ ghost use Rattle.rule_machine.specs.Network.{node_count};
 ghost use Rattle.rule_machine.specs.Refuse.{refusal_of};
 ghost use Rattle.fault_injector.specs.DrawnFaults.{fault_drawn, behind, fault_words, is_register_fault};
 
-use crate::picks::{pick_node, pick_target, pick_value};
+use crate::picks::{pick_node, pick_target};
 use rand_core::Rng;
 use rule_engine::Net;
 use rule_machine::{Event, Rules};
@@ -57,7 +57,7 @@ impl<G: Rng> Injector<G> {
         }
         let node = pick_node(store, self.generator.next_u32());
         if R::FLAGS && self.generator.next_u32() % 2 == 1 {
-            return Some(Event::Flag(node, pick_value(self.generator.next_u32())));
+            return Some(Event::Flag(node, self.generator.next_u32() % 2 == 1));
         }
         Some(Event::Point(node, pick_target(store, node, self.generator.next_u32())))
     }

@@ -3,7 +3,7 @@
 ghost use Rattle.std.specs.Prelude.{◌≡◌, ◌<◌, IsTrue, None, slice_index};
 ghost use Rattle.rule_machine.specs.Network.{names, node_count, present};
 ghost use Rattle.rule_machine.specs.Refuse.{point_refusal};
-ghost use Rattle.fault_injector.specs.DrawnFaults.{node_at, drawn_target, is_odd};
+ghost use Rattle.fault_injector.specs.DrawnFaults.{node_at, drawn_target};
 
 use graph_store::EdgeStore;
 use rule_machine::Node;
@@ -39,10 +39,4 @@ pub(crate) fn pick_target(store: &EdgeStore, node: Node, word: u32) -> Option<No
         return None;
     }
     Some(neighbours[place - 1])
-}
-
-pub(crate) fn pick_value(word: u32) -> bool
-    ensures { result ≡ is_odd word }
-{
-    word % 2 == 1
 }

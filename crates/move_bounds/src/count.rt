@@ -1,8 +1,7 @@
-//! Pairs, and how many neighbours of a node are unmarried.
+//! How many neighbours of a node are unmarried.
 
 ghost use Rattle.std.specs.Prelude.{◌≡◌, ◌≤◌, IsTrue};
 ghost use Rattle.rule_machine.specs.Network.{present};
-ghost use Rattle.rule_machine.specs.State.{is_mutual};
 ghost use Rattle.silence_laws.specs.Costs.{is_single_but, single_neighbours, single_neighbours_but};
 
 use net_state::NetState;
@@ -44,11 +43,4 @@ pub fn unmarried_neighbours(net: &NetState, v: Node) -> u32
     ensures few { result ≤ 65535 }
 {
     unmarried_neighbours_but(net, v, &None)
-}
-
-/// Whether two nodes point at each other.
-pub fn is_pair(net: &NetState, a: Node, b: Node) -> bool
-    ensures { result ≡ is_mutual net.now.state a b }
-{
-    net.points(a, b) && net.points(b, a)
 }

@@ -5,7 +5,7 @@ ghost use Rattle.rule_machine.specs.Network.{present};
 ghost use Rattle.rule_machine.specs.State.{IsState, is_mutual, married};
 ghost use Rattle.silence_laws.specs.Costs.{single_neighbours};
 
-use crate::{is_pair, unmarried_neighbours};
+use crate::unmarried_neighbours;
 use net_state::NetState;
 use rule_machine::Node;
 
@@ -31,7 +31,7 @@ pub fn unlink_cost(net: &NetState, a: Node, b: Node, more: u32) -> u32
     requires little { more ≤ 65535 }
     ensures { let s = net.now.state in result ≡ cond (is_mutual s a b) (2 * (single_neighbours s a + single_neighbours s b) + more) 0 }
 {
-    if is_pair(net, a, b) {
+    if net.points(a, b) && net.points(b, a) {
         2 * (unmarried_neighbours(net, a) + unmarried_neighbours(net, b)) + more
     } else {
         0

@@ -21,7 +21,7 @@ mod edges;
 mod node_bound;
 mod silent_cost;
 
-pub use count::{is_pair, unmarried_neighbours, unmarried_neighbours_but};
+pub use count::{unmarried_neighbours, unmarried_neighbours_but};
 pub use edges::{link_cost, unlink_cost};
 pub use node_bound::NodeBound;
 pub use silent_cost::SilentCost;

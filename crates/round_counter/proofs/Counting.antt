@@ -1,5 +1,5 @@
 -- A counter before an entry and after it.
-use Rattle.round_counter.proofs.Prelude.{◌≡◌, ℕ, zero, suc, nat_eq, ◌+◌, ◌≤◌, Bool, true, false, cond, not, ◌&&◌, List, [], ◌∷◌, ◌++◌, append_assoc, length, min, filter, is_some, IsTrue, refl, sym, ap, ◌∙◌, subst, inl, inr, arith, and_from, and_parts, not_from_false, is_mover_in, true≢false, false_from_ne_true, nil_from_length, IsIn, in_kept, kept_in, is_in, members, AreNoted, RemovedNames, names, present, in_names, names_present, Network, State, Event, Reply, Accepted, Refused, Moves, Shown, EnabledAre, Pairs, Counts, Moved, after_moves, followed, RuleTable, rule_at, enabled_names, Entry, stays_pending, round_turn, rounds_by, rounds_from, rounds_in, RoundCount, first_count, next_count, RoundCounter, AreEnabledIn, HasCounted, CanCount, is_step, count_in, start_after, log_after, pending_names}
+use Rattle.round_counter.proofs.Prelude.{◌≡◌, ℕ, zero, suc, nat_eq, ◌+◌, ◌≤◌, Bool, true, false, cond, not, ◌&&◌, List, [], ◌∷◌, ◌++◌, append_assoc, length, min, filter, is_some, IsTrue, refl, sym, ap, ◌∙◌, subst, inl, inr, arith, and_from, and_parts, not_from_false, is_mover_in, true≢false, false_from_ne_true, nil_from_length, IsIn, in_kept, kept_in, is_in, members, AreNoted, RemovedNames, names, present, in_names, names_present, Network, State, Event, Reply, Accepted, Moves, Moved, after_moves, followed, RuleTable, rule_at, enabled_names, Entry, stays_pending, round_turn, rounds_by, rounds_from, rounds_in, RoundCount, first_count, next_count, RoundCounter, AreEnabledIn, HasCounted, CanCount, is_step, count_in, start_after, log_after, pending_names}
 use Rattle.round_counter.proofs.Bits.{member_in, in_member}
 use Rattle.round_counter.proofs.Serving.{LeavesPending}
 
@@ -88,12 +88,7 @@ IsNext t reply s next old new = (count_in t next new ≡ next_count t reply next
 -- so the counter has counted the entry too
 pub counted_next : (t : RuleTable) (start : State) (log : List Entry) (s : State) (event : Event) (reply : Reply) (old new : RoundCounter) → IsNext t reply s (followed s event reply) old new → HasCounted t start log s old → HasCounted t (start_after start reply (followed s event reply)) (log_after log event reply) (followed s event reply) new
 counted_next t start log s event Accepted old new (is, enabled) it = fresh t (followed s event Accepted) new is enabled
-counted_next t start log s event (Moves x) old new (is, enabled) it = one_more t start log s event (Moves x) old new it (ap (λ (c : RoundCount). c.rounds) is) (ap (λ (c : RoundCount). c.pending) is) enabled
-counted_next t start log s event (Refused x) old new (is, enabled) it = one_more t start log s event (Refused x) old new it (ap (λ (c : RoundCount). c.rounds) is) (ap (λ (c : RoundCount). c.pending) is) enabled
-counted_next t start log s event (Shown x) old new (is, enabled) it = one_more t start log s event (Shown x) old new it (ap (λ (c : RoundCount). c.rounds) is) (ap (λ (c : RoundCount). c.pending) is) enabled
-counted_next t start log s event (EnabledAre x) old new (is, enabled) it = one_more t start log s event (EnabledAre x) old new it (ap (λ (c : RoundCount). c.rounds) is) (ap (λ (c : RoundCount). c.pending) is) enabled
-counted_next t start log s event (Pairs x) old new (is, enabled) it = one_more t start log s event (Pairs x) old new it (ap (λ (c : RoundCount). c.rounds) is) (ap (λ (c : RoundCount). c.pending) is) enabled
-counted_next t start log s event (Counts x) old new (is, enabled) it = one_more t start log s event (Counts x) old new it (ap (λ (c : RoundCount). c.rounds) is) (ap (λ (c : RoundCount). c.pending) is) enabled
+counted_next t start log s event reply old new (is, enabled) it = one_more t start log s event reply old new it (ap (λ (c : RoundCount). c.rounds) is) (ap (λ (c : RoundCount). c.pending) is) enabled
 
 same_count : (t : RuleTable) (s : State) (c : RoundCounter) → count_in t s c ≡ record { rounds = c.rounds + 0; pending = pending_names t s c }
 same_count t s c = ap (λ (n : ℕ). record { rounds = n; pending = pending_names t s c }) (add_none c.rounds)
@@ -102,11 +97,7 @@ same_count t s c = ap (λ (n : ℕ). record { rounds = n; pending = pending_name
 pub unchanged : (t : RuleTable) (s : State) (event : Event) (reply : Reply) (c : RoundCounter) → ((moves : List Moved) → reply ≡ Moves moves → ⊥) → (reply ≡ Accepted → ⊥) → AreEnabledIn t s c → IsNext t reply s (followed s event reply) c c
 unchanged t s event (Moves moves) c quiet calm was = absurd (quiet moves refl)
 unchanged t s event Accepted c quiet calm was = absurd (calm refl)
-unchanged t s event (Refused refusal) c quiet calm was = (same_count t s c, was)
-unchanged t s event (Shown target) c quiet calm was = (same_count t s c, was)
-unchanged t s event (EnabledAre nodes) c quiet calm was = (same_count t s c, was)
-unchanged t s event (Pairs pairs) c quiet calm was = (same_count t s c, was)
-unchanged t s event (Counts counts) c quiet calm was = (same_count t s c, was)
+unchanged t s event reply c quiet calm was = (same_count t s c, was)
 
 -- a disturbance
 pub begins_anew : (t : RuleTable) (s : State) (event : Event) (reply : Reply) (old c : RoundCounter) → reply ≡ Accepted → c.rounds ≡ 0 → c.is_new ≡ true → IsNext t reply s (followed s event reply) old c

@@ -1,7 +1,6 @@
 -- The moves of a choice in the order of their nodes are its least moves: both rise, and have the same
 -- members.
-use Rattle.rule_engine.proofs.Prelude.{◌≡◌, ℕ, suc, ◌+◌, ◌<◌, Bool, false, List, [], ◌∷◌, ◌++◌, map, filter_map, get_or, Contains, Option, None, Some, is_some, option_and_then, IsTrue, nat_eq, refl, sym, ap, ap₂, ◌∙◌, subst, ⊎_elim, arith, list_any, AllByRecursion, cons_option, IsPermutation, IsStrictlyIncreasing, IsNonDecreasing, IsNonDecreasingBy, option_or, or_parts, get_or-map, length-map, list_any-append, AllPairs-from_increasing, IsStrictlyIncreasing-filter, IsPermutation-refl, IsPermutation-map, IsPermutation-sym, Contains-permutation, IsDistinct-IsPermutation, IsStrictlyIncreasing-from_distinct, nat_eq_equiv, option_and_then_some, Abandon, Item, Moved, names, present, State, RuleTable, item_refusal, items_refusal, outcome_of, move_in, item_of, least_moves, contains_first, contains_rest, contains_empty, contains_cases, filter_map_from, makes_from_outcome, move_at, find_passes, find_contains, filter_map_contains, filter_map_nodes, names_increasing, names_contains, taken_from_none, taken_at, choice_from_none, verdicts_from, verdicts_of, verdict_moves, moves_by, AreLeast}
-use Rattle.std.proofs.Common.{eqb-true}
+use Rattle.rule_engine.proofs.Prelude.{◌≡◌, ℕ, suc, ◌+◌, ◌<◌, Bool, false, List, [], ◌∷◌, ◌++◌, map, filter_map, get_or, Contains, Option, None, Some, is_some, option_and_then, IsTrue, nat_eq, refl, sym, ap, ap₂, ◌∙◌, subst, ⊎_elim, arith, list_any, AllByRecursion, cons_option, IsPermutation, IsStrictlyIncreasing, IsNonDecreasing, IsNonDecreasingBy, option_or, or_parts, get_or-map, length-map, list_any-append, AllPairs-from_increasing, IsStrictlyIncreasing-filter, IsPermutation-refl, IsPermutation-map, IsPermutation-sym, Contains-permutation, IsDistinct-IsPermutation, IsStrictlyIncreasing-from_distinct, nat_eq_equiv, option_and_then_some, Abandon, Item, Moved, names, present, State, RuleTable, item_refusal, items_refusal, outcome_of, move_in, item_of, least_moves, contains_first, contains_rest, contains_empty, contains_cases, filter_map_from, makes_from_outcome, move_at, find_passes, find_contains, filter_map_contains, filter_map_nodes, names_increasing, names_contains, taken_from_none, taken_at, choice_from_none, moves_by, AreLeast, eqb-true}
 use Rattle.std.specs.List.{IsDistinct}
 
 abbrev node_of : Moved → ℕ
@@ -69,14 +68,6 @@ rises_from ms up distinct = IsStrictlyIncreasing-from_distinct (map node_of ms) 
         omega arith
 
 -- ---- the moves of a choice
-
--- the moves of verdicts are those of their items
-moves_of-verdicts_from : (t : RuleTable) (s : State) (place : ℕ) (items : List Item) → verdict_moves (verdicts_from t s place items) ≡ moves_by t s items
-moves_of-verdicts_from t s place [] = refl
-moves_of-verdicts_from t s place (item ∷ items) = ap (cons_option (move_in (outcome_of t s item))) (moves_of-verdicts_from t s (place + 1) items)
-
-pub moves_of-verdicts_of : (t : RuleTable) (s : State) (items : List Item) → verdict_moves (verdicts_of t s items) ≡ moves_by t s items
-moves_of-verdicts_of t s items = moves_of-verdicts_from t s 0 items
 
 -- no item names the move's node
 abbrev pub IsFresh : List Item → Moved → Type 0

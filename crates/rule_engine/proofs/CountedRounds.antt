@@ -1,6 +1,6 @@
 -- A counter of rounds after one more entry.
 use Rattle.enabled_set.specs.RemovedNames.{AreNoted, RemovedNames}
-use Rattle.rule_engine.proofs.Prelude.{◌≡◌, ◌∙◌, ◌≢◌, ℕ, ◌+◌, ◌<◌, ◌≤◌, Bool, false, cond, List, [], ◌∷◌, ◌++◌, length, All-push, Option, None, Some, IsTrue, refl, sym, ap, subst, arith, Moved, Event, Reply, Accepted, Refused, Moves, Shown, EnabledAre, Pairs, Counts, State, IsState, RuleTable, Answers, spent_after, Entry, Moment, Run, IsTable, Does, AnswersBy, refusal_of, Refusal, Step, false≢true, run_add, answers_keep, followed, answer_followed, enabled_names, Network, members, IsUndisturbed, RoundCount, count_of_log, counted_whole, rounds_in, rounds_of, next_count, AreEnabledIn, HasCounted, CanCount, count_in, is_step, log_after, start_after, RoundCounter, CountsRun}
+use Rattle.rule_engine.proofs.Prelude.{◌≡◌, ◌∙◌, ◌≢◌, ℕ, ◌+◌, ◌<◌, ◌≤◌, Bool, false, cond, List, [], ◌∷◌, ◌++◌, length, All-push, Option, None, Some, IsTrue, refl, sym, ap, subst, arith, Moved, Event, Reply, Accepted, Refused, Moves, State, IsState, RuleTable, Answers, spent_after, Entry, Moment, Run, Does, AnswersBy, refusal_of, Refusal, Step, false≢true, run_add, followed, answer_followed, enabled_names, members, IsUndisturbed, RoundCount, count_of_log, counted_whole, rounds_in, rounds_of, next_count, HasCounted, CanCount, count_in, is_step, log_after, start_after, RoundCounter, CountsRun}
 
 -- what the counter says of an entry that led to this state
 abbrev pub CountsTo : RuleTable → State → Event → Reply → State → RoundCounter → RoundCounter → Type 0
@@ -77,21 +77,9 @@ counts_after t m next event (Moves moves) old new good answers spent fits ready 
     let before = it.few in
     more t m next event (Moves moves) old new answers spent (not_accepted (Moves moves) (λ e. omega (arith, e))) (omega (arith, few, some, before, spent)) it
     (to it.start.state it.log (λ step. (ready step, omega (arith, some, before, spent, fits))) it.counted)
-counts_after t m next event (Refused x) old new good answers spent fits ready few to it =
+counts_after t m next event reply old new good answers spent fits ready few to it =
     let before = it.few in
-    more t m next event (Refused x) old new answers spent (not_accepted (Refused x) (λ e. omega (arith, e))) (omega (arith, few, before, spent)) it (to it.start.state it.log (λ step. absurd (false≢true step)) it.counted)
-counts_after t m next event (Shown x) old new good answers spent fits ready few to it =
-    let before = it.few in
-    more t m next event (Shown x) old new answers spent (not_accepted (Shown x) (λ e. omega (arith, e))) (omega (arith, few, before, spent)) it (to it.start.state it.log (λ step. absurd (false≢true step)) it.counted)
-counts_after t m next event (EnabledAre x) old new good answers spent fits ready few to it =
-    let before = it.few in
-    more t m next event (EnabledAre x) old new answers spent (not_accepted (EnabledAre x) (λ e. omega (arith, e))) (omega (arith, few, before, spent)) it (to it.start.state it.log (λ step. absurd (false≢true step)) it.counted)
-counts_after t m next event (Pairs x) old new good answers spent fits ready few to it =
-    let before = it.few in
-    more t m next event (Pairs x) old new answers spent (not_accepted (Pairs x) (λ e. omega (arith, e))) (omega (arith, few, before, spent)) it (to it.start.state it.log (λ step. absurd (false≢true step)) it.counted)
-counts_after t m next event (Counts x) old new good answers spent fits ready few to it =
-    let before = it.few in
-    more t m next event (Counts x) old new answers spent (not_accepted (Counts x) (λ e. omega (arith, e))) (omega (arith, few, before, spent)) it (to it.start.state it.log (λ step. absurd (false≢true step)) it.counted)
+    more t m next event reply old new answers spent (not_accepted reply (λ e. omega (arith, e))) (omega (arith, few, before, spent)) it (to it.start.state it.log (λ step. absurd (false≢true step)) it.counted)
 
 -- ---- the count, as one value
 
@@ -99,12 +87,7 @@ counts_after t m next event (Counts x) old new good answers spent fits ready few
 can_count : (t : RuleTable) (m next : Moment) (event : Event) (reply : Reply) (old : RoundCounter) → Answers t m.state m.spent event reply next.state → next.spent ≡ spent_after m.spent reply → next.spent < 4294967296 → (IsTrue (is_step reply) → old.is_new ≡ false) → old.rounds ≤ m.spent → CanCount reply old
 can_count t m next event (Moves moves) old answers spent fits ready before step =
     let some = some_moves t m.state m.spent event moves next.state answers in (ready step, omega (arith, some, before, spent, fits))
-can_count t m next event Accepted old answers spent fits ready before step = absurd (false≢true step)
-can_count t m next event (Refused x) old answers spent fits ready before step = absurd (false≢true step)
-can_count t m next event (Shown x) old answers spent fits ready before step = absurd (false≢true step)
-can_count t m next event (EnabledAre x) old answers spent fits ready before step = absurd (false≢true step)
-can_count t m next event (Pairs x) old answers spent fits ready before step = absurd (false≢true step)
-can_count t m next event (Counts x) old answers spent fits ready before step = absurd (false≢true step)
+can_count t m next event reply old answers spent fits ready before step = absurd (false≢true step)
 
 -- the state after an answer is the one that its reply tells
 pub count_after : (t : RuleTable) (e : List Bool) (removed : RemovedNames) (m next : Moment) (event : Event) (reply : Reply) (old new : RoundCounter) → Answers t m.state m.spent event reply next.state → next.spent ≡ spent_after m.spent reply → next.spent < 4294967296 → (IsTrue (is_step reply) → old.is_new ≡ false)

@@ -1,5 +1,6 @@
 -- What verdicts say of the items that they are of.
-use Rattle.rule_engine.proofs.Prelude.{◌≡◌, ℕ, suc, ◌+◌, Bool, true, false, cond, not, ◌&&◌, ◌||◌, List, [], ◌∷◌, ◌++◌, length, Option, None, Some, nat_eq, nat_lt, refl, sym, ap, ◌∙◌, list_any, list_any-append, option_or, Act, Item, Refusal, UnknownNode, ChosenTwice, BadTarget, EmptyChoice, NotCentral, Verdict, present, State, RuleTable, rule_at, item_refusal, items_refusal, step_refusal, rule_refusal, wish_refusal, outcome_of, outcome_at, outcome_by, verdict_of, verdicts_from, verdicts_of, refused_by, verdicts_refusal, size_refusal}
+use Rattle.rule_engine.proofs.Prelude.{◌≡◌, ℕ, suc, ◌+◌, Bool, true, false, cond, not, ◌&&◌, List, [], ◌∷◌, length, get_or, zero, subst, Option, None, Some, nat_eq, nat_lt, refl, sym, ap, ◌∙◌, list_any, option_or, Act, Item, Refusal, UnknownNode, ChosenTwice, BadTarget, EmptyChoice, NotCentral, Verdict, present, State, RuleTable, rule_at, item_refusal, items_refusal, step_refusal, rule_refusal, wish_refusal, outcome_of, outcome_at, outcome_by, verdicts_from, verdicts_of, refused_by, size_refusal, HaveOutcomes}
+use Rattle.std.specs.Prelude.{IfSome, slice_get}
 use Rattle.rule_machine.specs.declared.verdict.Outcome.TheVariants as outcome
 
 by_wish : (t : RuleTable) (s : State) (v : ℕ) (act : Act) (wish : Option ℕ) → wish_refusal (t.allowed s v act) wish ≡ refused_by (outcome_by t s v act wish) false
@@ -36,17 +37,16 @@ length-verdicts_from : (t : RuleTable) (s : State) (place : ℕ) (items : List I
 length-verdicts_from t s place [] = refl
 length-verdicts_from t s place (item ∷ items) = ap suc (length-verdicts_from t s (place + 1) items)
 
--- two lists whose verdicts and items name the same nodes go on to the same refusal
-refusals_agree : (t : RuleTable) (s : State) (place : ℕ) (items earlier : List Item) (judged : List Verdict) → ((v : ℕ) → list_any (λ d. nat_eq d.node v) judged ≡ list_any (λ i. nat_eq i.node v) earlier) → verdicts_refusal judged (verdicts_from t s place items) ≡ items_refusal t s earlier items
-refusals_agree t s place [] earlier judged same = refl
-refusals_agree t s place (item ∷ items) earlier judged same =
-    let first = item_refusal-outcome t s earlier item in
-    let next : (v : ℕ) → list_any (λ d. nat_eq d.node v) (judged ++ verdict_of t s place item ∷ []) ≡ list_any (λ i. nat_eq i.node v) (earlier ++ item ∷ []) =
-    λ v. list_any-append (λ (d : Verdict). nat_eq d.node v) judged (verdict_of t s place item ∷ []) ∙ ap (λ b. b || (nat_eq item.node v || false)) (same v) ∙ sym (list_any-append (λ (i : Item). nat_eq i.node v) earlier (item ∷ []))
-    in
-    ap (λ b. option_or (refused_by (outcome_of t s item) b) (verdicts_refusal (judged ++ verdict_of t s place item ∷ []) (verdicts_from t s (place + 1) items))) (same item.node)
-    ∙ ap (λ o. option_or o (verdicts_refusal (judged ++ verdict_of t s place item ∷ []) (verdicts_from t s (place + 1) items))) (sym first)
-    ∙ ap (option_or (item_refusal t s earlier item)) (refusals_agree t s (place + 1) items (earlier ++ item ∷ []) (judged ++ verdict_of t s place item ∷ []) next)
+-- the outcome of a verdict is that of its item
+judged_from : (t : RuleTable) (s : State) (place : ℕ) (items : List Item) (k : ℕ) (d : Item) → IfSome (slice_get (verdicts_from t s place items) k) (λ verdict. verdict.outcome ≡ outcome_of t s (get_or items k d))
+judged_from t s place [] k d = tt
+judged_from t s place (item ∷ items) zero d = refl
+judged_from t s place (item ∷ items) (suc k) d = judged_from t s (place + 1) items k d
+
+pub judged_of : (t : RuleTable) (s : State) (items : List Item) (verdicts : List Verdict) → verdicts ≡ verdicts_of t s items → HaveOutcomes t s items verdicts
+judged_of t s items verdicts are place item is =
+    subst (λ (i : Item). IfSome (slice_get verdicts place) (λ verdict. verdict.outcome ≡ outcome_of t s i)) (sym is)
+    (subst (λ (l : List Verdict). IfSome (slice_get l place) (λ verdict. verdict.outcome ≡ outcome_of t s (get_or items place item))) (sym are) (judged_from t s 0 items place item))
 
 -- a step is refused for its size, or else for its first item that is
 pub step_refusal-parts : (t : RuleTable) (s : State) (items : List Item) → step_refusal t s items ≡ option_or (size_refusal t.central (length items)) (items_refusal t s [] items)
@@ -56,10 +56,6 @@ step_refusal-parts t s items = parts (nat_eq (length items) 0) (t.central && nat
     parts true wide o = refl
     parts false true o = refl
     parts false false o = refl
-
--- by the verdicts of its items as by these
-pub refusal-verdicts_of : (t : RuleTable) (s : State) (items : List Item) → verdicts_refusal [] (verdicts_of t s items) ≡ items_refusal t s [] items
-refusal-verdicts_of t s items = refusals_agree t s 0 items [] [] (λ v. refl)
 
 pub length-verdicts_of : (t : RuleTable) (s : State) (items : List Item) → length (verdicts_of t s items) ≡ length items
 length-verdicts_of t s items = length-verdicts_from t s 0 items

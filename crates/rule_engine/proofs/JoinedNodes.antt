@@ -1,6 +1,6 @@
 -- Nodes that join and leave: what the others show, and the set of enabled nodes.
-use Rattle.rule_engine.proofs.Prelude.{◌≡◌, ℕ, ◌<◌, ◌≤◌, Bool, true, false, cond, is_some, List, length, set, get_or, nat_eq, None, IsTrue, sym, ap, ◌∙◌, subst, ⊎_elim, arith, and_parts, and_from, cases_lt, false_from_ne_true, le-leb, true≢false, get_or-set_same, get_or_past, length-set, Network, IsNetwork, present, with_node, State, IsState, RuleTable, rule_at, after_join, SameAt, present_other, join_keeps, is_enabled_at, AreOn, IsRefreshed}
-use Rattle.rule_engine.proofs.EnabledRefresh.{IsLocal, kept_again}
+use Rattle.rule_engine.proofs.Prelude.{◌≡◌, ℕ, ◌<◌, ◌≤◌, Bool, true, false, cond, is_some, List, length, set, get_or, nat_eq, None, IsTrue, sym, ap, ◌∙◌, subst, ⊎_elim, arith, and_parts, and_from, cases_lt, false_from_ne_true, le-leb, true≢false, get_or-set_same, get_or_past, length-set, Network, IsNetwork, present, with_node, State, IsState, RuleTable, rule_at, after_join, SameAt, present_other, join_keeps, is_enabled_at, AreOn, IsRefreshed, ◌+◌, [], cases_eq, get_or-set_other, neighbours, without_place, present_range}
+use Rattle.rule_engine.proofs.EnabledRefresh.{IsLocal, kept_again, same_on}
 use Rattle.rule_engine.proofs.FarNodes.{not_same, seat_far}
 
 -- ---- a node that joins
@@ -35,3 +35,21 @@ parted_absent net v =
 -- and no rule is enabled there
 pub absent_off : (t : RuleTable) (q : State) (v : ℕ) → present q.network v ≡ false → is_enabled_at t q v ≡ false
 absent_off t q v absent = ap (λ b. is_some (cond b (rule_at t q v) None)) absent
+
+-- once it has no edge and is absent, it is no member, and the set is right everywhere
+pub kept_left : (t : RuleTable) → IsLocal t → (s u : State) (v : ℕ) (bits : List Bool) → IsState s → AreOn t s bits → IsTrue (present s.network v) → neighbours s.network v ≡ [] → IsState u → u ≡ without_place s v → AreOn t u (set bits v false)
+kept_left t local s u v bits good kept has none good' is =
+    let bounds = present_range s.network v has in
+    let size : u.network.size ≡ s.network.size = ap (λ q. q.network.size) is in
+    let places = kept.places in
+    record {
+      places = length-set bits v false ∙ places ∙ ap (λ n. n + 1) (sym size);
+      each = λ x. ⊎_elim
+          (λ (at : x ≡ v). ap (λ y. get_or (set bits v false) y false) at ∙ get_or-set_same bits v false false (omega (arith, bounds.1, places)) ∙ sym (ap (is_enabled_at t u) at ∙ ap (λ q. is_enabled_at t q v) is ∙ absent_off t (without_place s v) v (parted_absent s.network v)))
+          (λ (apart : x ≡ v → ⊥).
+          get_or-set_other bits v x false false apart
+          ∙ kept.each x
+          ∙ same_on t local s u x good good' (ap (λ q. present q.network x) is ∙ present_other s.network v false x apart)
+          (subst (λ q. SameAt s q x) (sym is) (seat_far s (set s.network.here v false) x good (subst IsState is good'))))
+          (cases_eq x v);
+    }

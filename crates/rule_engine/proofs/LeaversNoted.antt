@@ -1,7 +1,6 @@
 -- The names that left the set of enabled nodes since a step began are noted.
-use Rattle.rule_engine.proofs.Prelude.{◌≡◌, ◌∙◌, true, List, Bool, Option, None, Some, IsTrue, sym, ap, false≢true, is_some, cond, present, rule_at, State, RuleTable, Moment, Reply, RoundCounter, CountsRounds, IsReady, AreOn, is_step}
+use Rattle.rule_engine.proofs.Prelude.{◌∙◌, true, List, Bool, Option, None, Some, IsTrue, sym, ap, false≢true, is_some, cond, rule_at, RuleTable, Moment, Reply, RoundCounter, CountsRounds, IsReady, AreOn, is_step, AreLeaversNoted}
 use Rattle.enabled_set.specs.RemovedNames.{KeepsNotes, RemovedNames}
-use Rattle.rule_engine.specs.Rounds.{AreLeaversNoted}
 
 -- before a step each pending node is enabled
 pub none_left : (t : RuleTable) (m : Moment) (reply : Reply) (rounds : Option RoundCounter) (bits : List Bool) (removed : RemovedNames) → AreOn t m.state bits → CountsRounds t m rounds → IsReady reply rounds → AreLeaversNoted reply rounds bits removed

@@ -1,8 +1,6 @@
 pub mod Prelude
-pub mod GrowingLists
 pub mod ItemVerdicts
 pub mod NodeScans
-pub mod VerdictEffects
 pub mod PreparedReplies
 pub mod ReplyMoves
 pub mod GuardRefresh
@@ -12,9 +10,7 @@ pub mod LocalViews
 pub mod WriteRefresh
 pub mod EnabledRefresh
 pub mod JoinedNodes
-pub mod LeavingNodes
 pub mod NodeMarks
-pub mod AscendingItems
 pub mod AscendingMoves
 pub mod Moments
 pub mod ScanSums

@@ -1,15 +1,9 @@
 -- A network that begins at a base: the state of the base's lines, and what is tested there.
-use Rattle.rule_engine.proofs.Prelude.{◌≡◌, ℕ, ◌+◌, ◌<◌, ◌≤◌, Bool, true, false, List, [], ◌∷◌, length, map, find, is_some, IsTrue, refl, sym, ap, ◌∙◌, subst, ⊎_elim, arith, true≢false, false_from_ne_true, State, IsState, RuleTable, names, charge_bound}
+use Rattle.rule_engine.proofs.Prelude.{◌≡◌, ℕ, ◌+◌, ◌<◌, ◌≤◌, Bool, true, false, List, [], ◌∷◌, length, map, find, is_some, IsTrue, refl, sym, ap, ◌∙◌, subst, ⊎_elim, arith, true≢false, false_from_ne_true, State, IsState, RuleTable, names, charge_bound, list_any, le-leb, leb-true, cases_lt, length-map, node_count, flag, option_cases, names_none}
 use Rattle.std.specs.Prelude.{◌↔◌, nat_le}
-use Rattle.std.specs.List.{list_any}
-use Rattle.std.proofs.lemmas.Bool.{le-leb, leb-true, cases_lt}
-use Rattle.std.proofs.lemmas.List.{length-map}
 use Rattle.rule_machine.specs.Base.{IsBaseMoment, base_of, node_record_at, node_records}
-use Rattle.rule_machine.specs.Network.{node_count}
-use Rattle.rule_machine.specs.State.{flag}
 use Rattle.rule_machine.specs.declared.base.Base.{Base}
 use Rattle.rule_machine.specs.declared.base.NodeRecord.{NodeRecord}
-use Rattle.machine_laws.proofs.Neighbours.{option_cases, names_none}
 use Rattle.net_state.specs.BaseLines.{NamesRise, EdgesAscend, HasLines, NoStateHas}
 use Rattle.net_state.proofs.LineOrders.{unordered_names, unordered_edges}
 use Rattle.rule_engine.specs.BaseFaults.{IsStateOf}

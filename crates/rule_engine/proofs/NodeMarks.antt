@@ -1,9 +1,7 @@
 -- Marks that are made and cleared one by one.
-use Rattle.rule_engine.proofs.Prelude.{◌≡◌, ℕ, zero, suc, ◌+◌, ◌<◌, Bool, true, false, cond, ◌||◌, List, [], ◌∷◌, ◌++◌, length, get_or, take, drop, set, All, IsTrue, None, option_to_list, Some, is_some, IsSome, nat_eq, refl, sym, ap, ◌∙◌, subst, ⊎_elim, arith, or-false, or-true, list_any, option_or, cases_Bool, cases_eq, ne_eqb, true≢false, get_or-set_same, get_or-set_other, drop_more, length-set, list_any_more, Item, Moved, Refusal, Verdict, Outcome, present, State, RuleTable, rule_at, items_refusal, move_in, outcome_of, outcome_at, present_range, is_in, moves_by, refused_by, verdicts_refusal, verdicts_from, verdicts_of, AreMarks, HasPlace, is_named, is_judged}
-use Rattle.std.proofs.Common.{eq-eqb}
+use Rattle.rule_engine.proofs.Prelude.{◌≡◌, ℕ, ◌+◌, ◌<◌, Bool, true, false, cond, ◌||◌, List, [], ◌∷◌, ◌++◌, length, get_or, take, drop, set, IsTrue, None, option_to_list, Some, is_some, IsSome, nat_eq, refl, sym, ap, ◌∙◌, ⊎_elim, arith, or-false, or-true, list_any, option_or, cases_Bool, cases_eq, ne_eqb, true≢false, get_or-set_same, get_or-set_other, drop_more, length-set, list_any_more, Item, Moved, Refusal, Outcome, present, State, RuleTable, rule_at, items_refusal, move_in, outcome_of, outcome_at, present_range, is_in, moves_by, refused_by, AreMarks, HasPlace, is_named, eq-eqb, get_or-take, length-take-le, All-from_get_or, list_any_none, Ascend}
 use Rattle.rule_machine.specs.declared.verdict.Outcome.TheVariants as outcome
-use Rattle.rule_engine.proofs.GrowingLists.{push_is_take}
-use Rattle.rule_engine.proofs.NodeScans.{found_next}
+use Rattle.rule_engine.proofs.NodeScans.{found_next, push_is_take}
 use Rattle.rule_engine.proofs.ItemVerdicts.{item_refusal-outcome}
 
 -- an outcome that is not refused is a move
@@ -52,14 +50,7 @@ passes node xs i x o marks marks' within is placed accepted made so_far =
       len = ap length made ∙ length-set marks (node x) true;
     }
 
--- a verdict after those that are not refused decides, if it is refused
-pub verdict_refused : (ds : List Verdict) (k : ℕ) (d : Verdict) (marks : List Bool) (refusal : Refusal) → k < length ds → d ≡ get_or ds k d → refused_by d.outcome (is_in marks d.node) ≡ Some refusal → AreMarks (is_judged (take k ds)) marks → Some refusal ≡ verdicts_refusal (take k ds) (drop k ds)
-verdict_refused ds k d marks refusal within is judged so_far =
-    ap (λ o. option_or o (verdicts_refusal (take k ds ++ d ∷ []) (drop (k + 1) ds))) (sym judged ∙ ap (refused_by d.outcome) (so_far d.node))
-    ∙ ap (λ e. verdicts_refusal (take k ds) (e ∷ drop (k + 1) ds)) is
-    ∙ ap (verdicts_refusal (take k ds)) (sym (drop_more ds k d within))
-
--- and so is an item
+-- an item after those that are not refused decides, if it is refused
 pub item_refused : (t : RuleTable) (s : State) (items : List Item) (k : ℕ) (item : Item) (twice : Bool) (refusal : Refusal) → k < length items → item ≡ get_or items k item → refused_by (outcome_of t s item) twice ≡ Some refusal → twice ≡ is_named (take k items) item.node → Some refusal ≡ items_refusal t s (take k items) (drop k items)
 item_refused t s items k item twice refusal within is judged named =
     ap (λ o. option_or o (items_refusal t s (take k items ++ item ∷ []) (drop (k + 1) items))) (sym judged ∙ ap (refused_by (outcome_of t s item)) named ∙ sym (item_refusal-outcome t s (take k items) item))
@@ -94,12 +85,13 @@ item_placed t s item places count = λ moves.
     (λ (none : present s.network item.node ≡ false). absurd (true≢false (sym moves ∙ ap (λ b. is_some (move_in (cond b (outcome_at t s item (rule_at t s item.node)) outcome.Absent))) none)))
     (cases_Bool (present s.network item.node))
 
-verdicts_placed_from : (t : RuleTable) (s : State) (place : ℕ) (items : List Item) (places : ℕ) → places ≡ s.network.size + 1 → (k : ℕ) (d : Verdict) → k < length (verdicts_from t s place items) → HasPlace places (get_or (verdicts_from t s place items) k d).node (get_or (verdicts_from t s place items) k d).outcome
-verdicts_placed_from t s place [] places count k d below = absurd (omega arith)
-verdicts_placed_from t s place (item ∷ items) places count zero d below = item_placed t s item places count
-verdicts_placed_from t s place (item ∷ items) places count (suc k) d below = verdicts_placed_from t s (place + 1) items places count k d (omega arith)
-
--- so have those of the verdicts of a choice
-pub verdicts_placed : (t : RuleTable) (s : State) (items : List Item) (verdicts : List Verdict) (places : ℕ) → verdicts ≡ verdicts_of t s items → places ≡ s.network.size + 1 → All (λ d. HasPlace places d.node d.outcome) verdicts
-verdicts_placed t s items verdicts places is count =
-    subst (All (λ (d : Verdict). HasPlace places d.node d.outcome)) (sym is) (verdicts_placed_from t s 0 items places count)
+-- no item names the node of an earlier one
+pub unnamed : (items : List Item) (k : ℕ) (item : Item) → Ascend items → k < length items → item ≡ get_or items k item → is_named (take k items) item.node ≡ false
+unnamed items k item ascend within is =
+    list_any_none (λ i. nat_eq i.node item.node) (take k items)
+    (All-from_get_or (λ i. nat_eq i.node item.node ≡ false) (take k items) item (λ j below.
+    let len = length-take-le k items (omega arith) in
+    let low : j < k = omega (arith, below, len) in
+    let under = ascend j k item low within in
+    let here : item.node ≡ (get_or items k item).node = ap (λ i. i.node) is in
+    ap (λ (i : Item). nat_eq i.node item.node) (get_or-take k items j item low) ∙ ne_eqb (get_or items j item).node item.node (λ same. omega (arith, under, here, same))))

@@ -1,6 +1,19 @@
 -- Lists that scans of all names, or of the enabled ones, make.
-use Rattle.rule_engine.proofs.Prelude.{◌≡◌, ℕ, ◌+◌, ◌<◌, Bool, true, false, cond, List, [], ◌∷◌, ◌++◌, length, get_or, take, filter, filter_map, Option, None, Some, Result, Ok, is_ok, is_some, option_map, option_to_list, IsTrue, refl, sym, ap, ◌∙◌, range_with_len, cons_option, true≢false, append-nil, filter_map-append, Act, present, State, RuleTable, rule_at, enabled_names, enabled, guard_at, marked_at}
-use Rattle.rule_engine.proofs.GrowingLists.{push_is_take, one_found}
+use Rattle.rule_engine.proofs.Prelude.{◌≡◌, ℕ, ◌+◌, ◌<◌, Bool, true, false, cond, List, [], ◌∷◌, ◌++◌, length, get_or, take, filter, filter_map, Option, None, Some, Result, Ok, is_ok, is_some, option_map, option_to_list, IsTrue, refl, sym, ap, ◌∙◌, range_with_len, cons_option, true≢false, append-nil, filter_map-append, Act, present, State, RuleTable, rule_at, enabled_names, enabled, guard_at, marked_at, arith, take_more}
+
+one_found : {X : Type 0} (o : Option X) → cons_option o [] ≡ option_to_list o
+one_found None = refl
+one_found (Some x) = refl
+
+-- the next item at the end of those so far
+pub push_is_take : {X : Type 0} (xs : List X) (i : ℕ) (x : X) → i < length xs → x ≡ get_or xs i x → take i xs ++ x ∷ [] ≡ take (i + 1) xs
+push_is_take xs i x within is = ap (λ y. take i xs ++ y ∷ []) is ∙ sym (take_more xs i x within)
+
+-- a list of one
+pub one_alone : {X : Type 0} (xs : List X) (x : X) → length xs ≡ 1 → x ≡ get_or xs 0 x → xs ≡ x ∷ []
+one_alone [] x one is = absurd (omega arith)
+one_alone (y ∷ []) x one is = ap (λ z. z ∷ []) (sym is)
+one_alone (y ∷ z ∷ zs) x one is = absurd (omega arith)
 
 -- at a name that is present
 pub guard_at_present : (t : RuleTable) (s : State) (v : ℕ) → IsTrue (present s.network v) → guard_at t s v ≡ rule_at t s v

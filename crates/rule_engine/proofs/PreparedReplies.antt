@@ -1,5 +1,5 @@
 -- Replies that are prepared.
-use Rattle.rule_engine.proofs.Prelude.{◌≡◌, Bool, true, false, List, [], ◌∷◌, length, Option, None, Some, Result, Ok, Err, IfOk, OnOk, OnErr, IsTrue, refl, sym, ap, subst, ◌∙◌, option_or, NetView, Item, Event, Step, Moved, Reply, Refused, Moves, Refusal, State, RuleTable, refusal_of, items_refusal, step_refusal, reply_by, least_moves, Prepares, size_refusal, moves_by, IsToldOf, IsPrepared}
+use Rattle.rule_engine.proofs.Prelude.{◌≡◌, Bool, true, false, List, [], ◌∷◌, length, Option, None, Some, Result, Ok, Err, IfOk, OnOk, OnErr, IsTrue, refl, sym, ap, subst, ◌∙◌, option_or, NetView, Item, Step, Moved, Reply, Refused, Moves, Refusal, State, RuleTable, items_refusal, step_refusal, reply_by, least_moves, Prepares, size_refusal, moves_by, IsToldOf}
 use Rattle.rule_engine.proofs.ItemVerdicts.{step_refusal-parts}
 
 -- the moves of a choice that is not refused
@@ -48,13 +48,3 @@ one_prepares {E = E} t n item reply told =
     sized : (central : Bool) → size_refusal central 1 ≡ None
     sized true = refl
     sized false = refl
-
--- carrying the event out takes no memory
-pub prepares_whole : {E : Type 0} (t : RuleTable) (n : NetView) (event : Event) (result : Result Reply E) → Prepares t n event result n → IfOk result (IsPrepared t n event)
-prepares_whole t n event (Ok reply) done = record { reply_is = done.reply; room = done.room }
-prepares_whole t n event (Err e) done = tt
-
--- and only an event that is not refused needs memory
-pub prepares_allowed : {E : Type 0} (t : RuleTable) (n : NetView) (event : Event) (result : Result Reply E) → Prepares t n event result n → OnErr result (refusal_of t n.state event ≡ None)
-prepares_allowed t n event (Ok reply) done = tt
-prepares_allowed t n event (Err e) done = done.want.0

@@ -1,26 +1,7 @@
 -- How many rounds can still come, from what a run has and from the moves that can still come.
-use Rattle.std.proofs.Common.{◌≡◌, ◌≢◌, ℕ, ◌+◌, ◌-◌, ◌≤◌, min, List, [], ◌∷◌, ◌++◌, filter, Option, None, Some, IfSome, refl, sym, ◌∙◌, ap, subst, arith}
-use Rattle.std.proofs.lemmas.List.Elements.{All-append}
-use Rattle.std.proofs.lemmas.List.Sums.{sum_by-cons}
-use Rattle.std.proofs.lemmas.Option.{none-some, same_Some}
-use Rattle.machine_laws.proofs.ChargesOfRuns.{run_lowers}
-use Rattle.machine_laws.specs.ChargeWords.{IsCharged, IsUndisturbed, moves_in, moves_of}
-use Rattle.machine_laws.proofs.LeastMoves.{IsTable}
-use Rattle.move_bounds.specs.MovesLeft.{BoundsMoves, moves_left}
+use Rattle.rule_engine.proofs.Prelude.{◌≡◌, ◌≢◌, ℕ, ◌+◌, ◌-◌, ◌≤◌, min, List, [], ◌∷◌, ◌++◌, filter, Option, None, Some, IfSome, refl, sym, ◌∙◌, ap, subst, arith, All-append, sum_by-cons, none-some, same_Some, run_lowers, IsCharged, IsUndisturbed, moves_in, moves_of, IsTable, BoundsMoves, moves_left, answer_followed, RoundCount, rounds_of, rounds_by, rounds_from, round_turn, stays_pending, Answers, spent_after, Network, node_count, RuleTable, enabled_names, Entry, Moment, Run, State, Event, Reply, Accepted, Moves, HasRounds}
 use Rattle.move_bounds.specs.RoundsLeft.{BoundsRoundsByNodes}
-use Rattle.round_laws.proofs.Counting.{answer_followed}
-use Rattle.round_laws.specs.RoundCounts.{RoundCount, rounds_of}
-use Rattle.round_laws.specs.Rounds.{rounds_by, rounds_from, round_turn, stays_pending}
-use Rattle.rule_machine.specs.Answer.{Answers, spent_after}
-use Rattle.rule_machine.specs.Network.{Network, node_count}
-use Rattle.rule_machine.specs.RuleTable.{RuleTable, enabled_names}
-use Rattle.rule_machine.specs.Run.{Entry, Moment, Run}
-use Rattle.rule_machine.specs.State.{State}
-use Rattle.rule_machine.specs.declared.event.Event.{Event}
-use Rattle.rule_machine.specs.declared.reply.Reply.{Reply}
-use Rattle.rule_machine.specs.declared.reply.Reply.TheVariants.{Accepted, Moves}
 use Rattle.rule_engine.proofs.CountedRounds.{some_moves}
-use Rattle.rule_engine.specs.Rounds.{HasRounds}
 use Rattle.rule_engine.specs.RoundsLeft.{LeavesIfCounted, LeavesRounds, rounds_left}
 
 -- one run after another

@@ -1,7 +1,6 @@
 -- The moves of a choice, and the verdict of each item.
-use Rattle.std.specs.Prelude.{◌≡◌, ℕ, ◌+◌, Bool, true, false, ◌&&◌, List, [], ◌∷◌, ◌++◌, Option, Some, None, if◌then◌else◌, nat_eq, nat_lt}
-use Rattle.std.specs.List.{list_any, filter_map}
-use Rattle.std.specs.Option.{option_or}
+use Rattle.std.specs.Prelude.{◌≡◌, ℕ, ◌+◌, Bool, true, false, ◌&&◌, List, [], ◌∷◌, Option, Some, None, IfSome, if◌then◌else◌, nat_eq, nat_lt, slice_get, slice_index_or}
+use Rattle.std.specs.List.{filter_map}
 use Rattle.rule_machine.specs.declared.choice.Item.{Item}
 use Rattle.rule_machine.specs.declared.act.Moved.{Moved}
 use Rattle.rule_machine.specs.declared.verdict.Verdict.{Verdict}
@@ -29,6 +28,11 @@ verdicts_from t s place (item ∷ items) = verdict_of t s place item ∷ verdict
 abbrev pub verdicts_of : RuleTable → State → List Item → List Verdict
 verdicts_of t s items = verdicts_from t s 0 items
 
+-- each of these verdicts has the outcome of the item at its place
+abbrev pub HaveOutcomes : RuleTable → State → List Item → List Verdict → Type 0
+HaveOutcomes t s items verdicts =
+    (place : ℕ) (item : Item) → item ≡ slice_index_or items place item → IfSome (slice_get verdicts place) (λ verdict. verdict.outcome ≡ outcome_of t s item)
+
 -- why an item with this outcome is refused; `twice`: an earlier item of the choice names the same node
 abbrev pub refused_by : Outcome → Bool → Option Refusal
 refused_by outcome.Absent twice = Some UnknownNode
@@ -39,12 +43,6 @@ refused_by outcome.Idle false = Some NotEnabled
 refused_by outcome.Wrong false = Some BadTarget
 refused_by (outcome.Moves m) false = None
 
--- the first refusal among verdicts that come after the verdicts `earlier`
-abbrev pub verdicts_refusal : List Verdict → List Verdict → Option Refusal
-verdicts_refusal earlier [] = None
-verdicts_refusal earlier (verdict ∷ verdicts) =
-    option_or (refused_by verdict.outcome (list_any (λ d. nat_eq d.node verdict.node) earlier)) (verdicts_refusal (earlier ++ verdict ∷ []) verdicts)
-
 -- why a choice of `count` items is refused, whatever the items are
 abbrev pub size_refusal : Bool → ℕ → Option Refusal
 size_refusal central count =
@@ -53,10 +51,6 @@ size_refusal central count =
 -- the moves that items make alone, in their order
 abbrev pub moves_by : RuleTable → State → List Item → List Moved
 moves_by t s items = filter_map (λ i. move_in (outcome_of t s i)) items
-
--- the moves among verdicts, in their order
-abbrev pub verdict_moves : List Verdict → List Moved
-verdict_moves verdicts = filter_map (λ d. move_in d.outcome) verdicts
 
 -- if `made` are the moves of the items of a choice that is not refused, `moves` are the same moves,
 -- ascending by node

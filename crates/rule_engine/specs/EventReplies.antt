@@ -1,7 +1,7 @@
 -- Results of preparing and carrying out events.
 use Rattle.std.specs.Prelude.{◌≡◌, ℕ, Bool, true, false, None, Result, Ok, Err, IfOk, OnErr, IsTrue}
 use Rattle.rule_machine.specs.declared.event.Event.{Event}
-use Rattle.rule_machine.specs.declared.event.Event.TheVariants.{Link, Unlink, Point, Flag, Step, Show, Enabled, Matching, Status, Join, Leave}
+use Rattle.rule_machine.specs.declared.event.Event.TheVariants.{Link, Step, Enabled, Matching}
 use Rattle.rule_machine.specs.declared.reply.Reply.{Reply}
 use Rattle.rule_machine.specs.State.{IsState, flag}
 use Rattle.rule_machine.specs.RuleTable.{RuleTable}
@@ -14,16 +14,10 @@ use Rattle.rule_engine.specs.PreparedEvents.{HasRoomTo, NetView, net_moment}
 -- whether an event may take memory if it is not refused
 abbrev pub takes_memory : Event → Bool
 takes_memory (Link a b) = true
-takes_memory (Unlink a b) = false
-takes_memory (Point v target) = false
-takes_memory (Flag v value) = false
-takes_memory (Join v) = false
-takes_memory (Leave v) = false
 takes_memory (Step items) = true
-takes_memory (Show v) = false
 takes_memory Enabled = true
 takes_memory Matching = true
-takes_memory Status = false
+takes_memory event = false
 
 -- the reply that was written, or the error
 abbrev pub stored_reply : {E : Type 0} → Result (Unit {0}) E → Reply → Result Reply E

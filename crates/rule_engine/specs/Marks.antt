@@ -3,7 +3,6 @@ use Rattle.std.specs.Prelude.{◌≡◌, ℕ, ◌+◌, ◌<◌, Bool, List, IsSo
 use Rattle.std.specs.List.{list_any}
 use Rattle.rule_machine.specs.State.{State}
 use Rattle.rule_machine.specs.declared.choice.Item.{Item}
-use Rattle.rule_machine.specs.declared.verdict.Verdict.{Verdict}
 use Rattle.rule_machine.specs.declared.verdict.Outcome.{Outcome}
 use Rattle.rule_machine.specs.Least.{move_in}
 use Rattle.enabled_set.specs.Members.{is_in}
@@ -23,10 +22,6 @@ is_named items v = list_any (λ i. nat_eq i.node v) items
 -- each item names a higher node than the items before it
 abbrev pub Ascend : List Item → Type 0
 Ascend items = (i j : ℕ) (d : Item) → i < j → j < length items → (slice_index_or items i d).node < (slice_index_or items j d).node
-
--- whether one of these verdicts is of the node
-abbrev pub is_judged : List Verdict → ℕ → Bool
-is_judged verdicts v = list_any (λ d. nat_eq d.node v) verdicts
 
 -- if the outcome is a move, the node has one of these places
 abbrev pub HasPlace : ℕ → ℕ → Outcome → Type 0

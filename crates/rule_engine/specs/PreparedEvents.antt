@@ -3,7 +3,9 @@ use Rattle.std.specs.Prelude.{◌≡◌, ℕ, List, Option, Some, refl}
 use Rattle.std.specs.Coded.{Coded, code_by, coded×, coded_ℕ, coded_list, coded_option}
 use Rattle.graph_store.specs.Graph.{HasRoomFor}
 use Rattle.rule_machine.specs.declared.event.Event.{Event}
-use Rattle.rule_machine.specs.declared.event.Event.TheVariants.{Link}
+use Rattle.rule_machine.specs.declared.event.Event.TheVariants.{Link, Step}
+use Rattle.rule_engine.specs.declared.events.Cause.{Cause}
+use Rattle.rule_engine.specs.declared.events.Cause.TheVariants as cause
 use Rattle.rule_machine.specs.declared.reply.Reply.{Reply}
 use Rattle.rule_machine.specs.declared.reply.Reply.TheVariants.{Accepted}
 use Rattle.rule_machine.specs.State.{State, state_code}
@@ -45,3 +47,8 @@ HasRoomTo event reply room = Unit {0}
 pub record IsPrepared (t : RuleTable) (net : NetView) (event : Event) (reply : Reply) : Type 0 where
   pub reply_is : reply ≡ reply_of t net.state net.spent event
   pub room : HasRoomTo event reply net.room
+
+-- the event that a reply is to, or the step of a choice
+abbrev pub event_of : Cause → Event
+event_of (cause.Event event) = event.now
+event_of (cause.Step choice) = Step choice.now

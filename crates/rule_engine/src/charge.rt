@@ -1,13 +1,9 @@
 //! The charge of a state, and the number of moves spent.
 
-ghost use Rattle.std.specs.Prelude.{◌≡◌, ◌≤◌, count_by, length, sum_by};
+ghost use Rattle.std.specs.Prelude.{◌≡◌, ◌≤◌, length};
 ghost use Rattle.machine_laws.specs.ChargeWords.{charge_bound};
 ghost use Rattle.rule_machine.specs.Answer.{spent_after};
-ghost use Rattle.rule_machine.specs.Network.{names, edge_list};
 ghost use Rattle.rule_machine.specs.Stable.{mutual_pairs};
-ghost use Rattle.rule_machine.specs.ChargeInputs.{ends_open};
-ghost use Rattle.rule_machine.specs.State.{IsState};
-ghost use Rattle.net_totals.specs.Contributions.{node_part};
 
 use crate::Derived;
 use graph_store::{EdgeStore, MAX_EDGES};
@@ -20,18 +16,6 @@ pub(crate) struct Totals {
     pub(crate) charge: u32,
 }
 
-fn charge_by<R: Rules>(net: &NetState, open_edges: u32, added: u32, closing: u32) -> u32
-    requires open { open_edges ≡ count_by (ends_open R.COURTED_PAIR_CLOSES_EDGE net.now.state) (edge_list net.now.state.network) }
-    requires added { added ≡ sum_by (node_part (R.adds net.now.state) net.now.state) (names net.now.state.network) }
-    requires closing { closing ≡ count_by (R.closes net.now.state) (names net.now.state.network) }
-    ensures { result ≡ R.table.charge net.now.state }
-{
-    // Called only for the contract: the state is sound.
-    let _ = net.capacity();
-    prove!(net.edges() <= MAX_EDGES);
-    (2 * u64::from(open_edges) + u64::from(added) - 2 * u64::from(closing)) as u32
-}
-
 /// Looks at the nodes whose contribution may have changed since the last call.
 pub(crate) fn totals_of<R: Rules>(net: &NetState, derived: &mut Derived<R>) -> Totals
     requires derived { ⟦<Derived<R> as Observer>⟧.fits net.now derived.old }
@@ -40,9 +24,14 @@ pub(crate) fn totals_of<R: Rules>(net: &NetState, derived: &mut Derived<R>) -> T
     ensures charge { result.charge ≡ R.table.charge net.now.state }
 {
     let all = derived.contributions.totals(net, &derived.suitors);
+    // Called only for the contract: the state is sound.
+    let _ = net.capacity();
+    prove!(net.edges() <= MAX_EDGES);
+    let charge = (2 * u64::from(all.open_edges) + u64::from(all.added)
+        - 2 * u64::from(all.closing)) as u32;
     Totals {
         pairs: all.pairs,
-        charge: charge_by::<R>(net, all.open_edges, all.added, all.closing),
+        charge,
     }
 }
 

@@ -1,7 +1,7 @@
 //! The moves of a step.
 
 ghost use Rattle.std.specs.Prelude.{◌≡◌, ◌++◌, ◌∷◌, [], IfOk, IsTrue, None, OnErr, OnOk};
-ghost use Rattle.rule_engine.specs.ChoiceMoves.{AreLeast, IsToldOf};
+ghost use Rattle.rule_engine.specs.ChoiceMoves.{IsToldOf};
 
 use rule_machine::{Listing, Moved, Refusal, Reply, Want};
 use std::alloc::{AllocError, Global};
@@ -32,26 +32,10 @@ impl CollectedMoves {
     {
         self.whole = self.whole && add_one(&mut self.moves, self.items, moved);
     }
-
-    /// Takes no memory. `AllocError` if memory ran out while moves were added.
-    pub(crate) fn into_ascending(self) -> Result<Listing<Moved>, Want>
-        ensures { IfOk result (λ moves. IsTrue self.whole × AreLeast self.moves.items moves) }
-    {
-        let CollectedMoves {
-            mut moves,
-            whole,
-            ..
-        } = self;
-        if !whole {
-            return Err(AllocError);
-        }
-        moves.sort_unstable_by_key(|moved| moved.node.place());
-        Ok(Listing::from_vec(moves))
-    }
 }
 
 /// False if memory runs out. The first item takes the room for all `most` items.
-pub(crate) fn add_one<T: Copy>(list: &mut Vec<T>, most: usize, item: T) -> bool
+fn add_one<T: Copy>(list: &mut Vec<T>, most: usize, item: T) -> bool
     ensures { IsTrue result → list.new.items ≡ list.old.items ++ item ∷ [] }
 {
     if list.is_empty() && list.reserve_exact(most).is_err() {
@@ -60,7 +44,7 @@ pub(crate) fn add_one<T: Copy>(list: &mut Vec<T>, most: usize, item: T) -> bool
     list.push(item).is_ok()
 }
 
-/// Takes no memory.
+/// Takes no memory. `AllocError` if memory ran out while moves were added.
 pub(crate) fn step_reply(refused: Option<Refusal>, gathered: CollectedMoves) -> Result<Reply, Want>
     ensures told { IfOk result (λ reply. IsToldOf refused gathered.moves.items reply) }
     ensures whole { OnOk result (refused ≡ None → IsTrue gathered.whole) }
@@ -69,6 +53,14 @@ pub(crate) fn step_reply(refused: Option<Refusal>, gathered: CollectedMoves) -> 
     if let Some(refusal) = refused {
         return Ok(Reply::Refused(refusal));
     }
-    let moves = gathered.into_ascending()?;
-    Ok(Reply::Moves(moves))
+    let CollectedMoves {
+        mut moves,
+        whole,
+        ..
+    } = gathered;
+    if !whole {
+        return Err(AllocError);
+    }
+    moves.sort_unstable_by_key(|moved| moved.node.place());
+    Ok(Reply::Moves(Listing::from_vec(moves)))
 }

@@ -32,13 +32,6 @@ pub(crate) fn put_edit(reply: &mut Reply, refusal: Option<Refusal>) -> Result<()
     Ok(())
 }
 
-pub(crate) fn put(reply: &mut Reply, found: Result<Reply, Want>) -> Result<(), Want>
-    ensures { stored_reply result reply.new ≡ found }
-{
-    *reply = found?;
-    Ok(())
-}
-
 /// One look-up if the edge exists.
 pub(crate) fn refused_unlink(store: &EdgeStore, a: Node, b: Node) -> Option<Refusal>
     ensures { result ≡ unlink_refusal store.now.network a b }
@@ -58,12 +51,9 @@ pub(crate) fn refused_flag<R: Rules>(store: &EdgeStore, v: Node) -> Option<Refus
     ensures { result ≡ flag_refusal R.table store.now.network v }
 {
     if !R::FLAGS {
-        Some(Refusal::NoFlag)
-    } else if store.has(v) {
-        None
-    } else {
-        Some(Refusal::UnknownNode)
+        return Some(Refusal::NoFlag);
     }
+    refused_leave(store, v)
 }
 
 pub(crate) fn refused_join(store: &EdgeStore, v: Node) -> Option<Refusal>

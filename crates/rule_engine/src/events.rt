@@ -13,7 +13,7 @@ ghost use Rattle.rule_machine.specs.declared.reply.Reply.TheVariants.{Accepted};
 ghost use Rattle.machine_laws.specs.StatesAfterReplies.{disturbed};
 ghost use Rattle.rule_engine.specs.ChoiceMoves.{verdicts_of};
 ghost use Rattle.rule_engine.specs.EventReplies.{takes_memory};
-ghost use Rattle.rule_engine.specs.PreparedEvents.{HasRoomTo, IsPrepared, net_moment};
+ghost use Rattle.rule_engine.specs.PreparedEvents.{HasRoomTo, IsPrepared, event_of, net_moment};
 
 use crate::charge::spent_after;
 use crate::rounds::{begin, follow};
@@ -22,6 +22,13 @@ use net_state::{
     NetState, Observer, join, leave, link_reserved, make_moves, set_flag, set_pointer, unlink,
 };
 use rule_machine::{Choice, Event, Reply, Rules, Verdict, Want};
+
+/// What a reply is to: an event, or a step that is given by its choice.
+#[derive(Clone, Copy)]
+enum Cause<'a> {
+    Event(&'a Event),
+    Step(&'a Choice),
+}
 
 impl<R: Rules> Net<R> {
     /// The reply that `apply` would give to an event. Takes all memory that carrying out the event needs.
@@ -64,16 +71,7 @@ impl<R: Rules> Net<R> {
         ensures machine { Answers R.table self.old.state self.old.spent event.now reply.now self.new.state }
         ensures counting { self.new.counting ≡ next_counting R.table reply.now self.new.state self.old.counting }
     {
-        begin(&mut self.rounds, &self.derived.enabled, reply);
-        carry_out(&mut self.net, &mut self.derived, event, reply);
-        self.spent = spent_after::<R>(self.net.store(), self.spent, reply);
-        follow::<R>(
-            &mut self.rounds,
-            &self.derived.enabled,
-            &mut self.derived.removals,
-            self.spent,
-            reply,
-        );
+        self.commit_to(Cause::Event(event), reply);
     }
 
     /// Carries out an event (an edit, a fault, a step or a query), and returns the reply.
@@ -104,26 +102,9 @@ impl<R: Rules> Net<R> {
         ensures kept_counting { OnErr result (self.new.counting ≡ self.old.counting) }
         ensures want { OnErr result ((refusal_of R.table self.old.state event.now ≡ None) × IsTrue (takes_memory event.now)) }
     {
-        let mut reply = Reply::Accepted;
-        self.apply_into(event, &mut reply)?;
+        let reply = self.prepare(event)?;
+        self.commit(event, &reply);
         Ok(reply)
-    }
-
-    /// Like `apply`, but writes the reply into `reply` instead of returning it.
-    /// If memory runs out, the value of `reply` is unspecified.
-    #[inline(always)]
-    pub fn apply_into(&mut self, event: &Event, reply: &mut Reply) -> Result<(), Want>
-        ensures reply { OnOk result (reply.new ≡ reply_of R.table self.old.state self.old.spent event.now) }
-        ensures state { OnOk result (net_moment self.new ≡ moment_after R.table (net_moment self.old) event.now) }
-        ensures machine { OnOk result (Answers R.table self.old.state self.old.spent event.now reply.new self.new.state) }
-        ensures counting { OnOk result (self.new.counting ≡ next_counting R.table reply.new self.new.state self.old.counting) }
-        ensures kept { OnErr result (net_moment self.new ≡ net_moment self.old) }
-        ensures kept_counting { OnErr result (self.new.counting ≡ self.old.counting) }
-        ensures want { OnErr result ((refusal_of R.table self.old.state event.now ≡ None) × IsTrue (takes_memory event.now)) }
-    {
-        self.prepare_into(event, reply)?;
-        self.commit(event, reply);
-        Ok(())
     }
 
     /// Carries out a step from the verdicts of the step's items, with the result and errors of `apply`.
@@ -138,17 +119,19 @@ impl<R: Rules> Net<R> {
         ensures want { OnErr result (refusal_of R.table self.old.state (Step choice.now) ≡ None) }
     {
         let reply = self.prepare_step(choice, verdicts)?;
-        self.commit_step(choice, &reply);
+        self.commit_to(Cause::Step(choice), &reply);
         Ok(reply)
     }
 
-    fn commit_step(&mut self, choice: &Choice, reply: &Reply)
-        requires { IsPrepared R.table self.old (Step choice.now) reply.now }
-        ensures state { net_moment self.new ≡ moment_after R.table (net_moment self.old) (Step choice.now) }
+    #[inline(always)]
+    fn commit_to(&mut self, cause: Cause<'_>, reply: &Reply)
+        requires { IsPrepared R.table self.old (event_of cause) reply.now }
+        ensures state { net_moment self.new ≡ moment_after R.table (net_moment self.old) (event_of cause.entry) }
+        ensures machine { Answers R.table self.old.state self.old.spent (event_of cause.entry) reply.now self.new.state }
         ensures counting { self.new.counting ≡ next_counting R.table reply.now self.new.state self.old.counting }
     {
         begin(&mut self.rounds, &self.derived.enabled, reply);
-        carry_out_step(&mut self.net, &mut self.derived, choice, reply);
+        carry_out(&mut self.net, &mut self.derived, cause, reply);
         self.spent = spent_after::<R>(self.net.store(), self.spent, reply);
         follow::<R>(
             &mut self.rounds,
@@ -162,47 +145,36 @@ impl<R: Rules> Net<R> {
 
 /// Takes no memory.
 #[inline(always)]
-fn carry_out<R: Rules>(net: &mut NetState, derived: &mut Derived<R>, event: &Event, reply: &Reply)
-    requires reply { (spent : ℕ) × (reply.now ≡ reply_of R.table net.old.state spent event.now) }
-    requires room { HasRoomTo event.now reply.now net.old.room }
+fn carry_out<R: Rules>(
+    net: &mut NetState,
+    derived: &mut Derived<R>,
+    cause: Cause<'_>,
+    reply: &Reply,
+)
+    requires reply { (spent : ℕ) × (reply.now ≡ reply_of R.table net.old.state spent (event_of cause)) }
+    requires room { HasRoomTo (event_of cause) reply.now net.old.room }
     requires fits { ⟦<Derived<R> as Observer>⟧.fits net.old derived.old }
-    ensures state { net.new.state ≡ state_after R.table net.old.state event.now }
+    ensures state { net.new.state ≡ state_after R.table net.old.state (event_of cause.entry) }
     ensures fits { ⟦<Derived<R> as Observer>⟧.fits net.new derived.new }
     ensures noted { IsTrue (is_step reply.now) → KeepsNotes derived.old.enabled derived.old.removals derived.new.enabled derived.new.removals }
 {
     match reply {
-        Reply::Accepted => disturb(net, derived, event),
+        Reply::Accepted => disturb(net, derived, cause),
         Reply::Moves(moves) => make_moves(net, derived, moves.as_slice()),
         _ => {}
     }
 }
 
-fn carry_out_step<R: Rules>(
-    net: &mut NetState,
-    derived: &mut Derived<R>,
-    choice: &Choice,
-    reply: &Reply,
-)
-    requires reply { (spent : ℕ) × (reply.now ≡ reply_of R.table net.old.state spent (Step choice.now)) }
+fn disturb<R: Rules>(net: &mut NetState, derived: &mut Derived<R>, cause: Cause<'_>)
+    requires accepted { refusal_of R.table net.old.state (event_of cause) ≡ None }
+    requires room { HasRoomTo (event_of cause) Accepted net.old.room }
     requires fits { ⟦<Derived<R> as Observer>⟧.fits net.old derived.old }
-    ensures state { net.new.state ≡ state_after R.table net.old.state (Step choice.now) }
-    ensures fits { ⟦<Derived<R> as Observer>⟧.fits net.new derived.new }
-    ensures noted { KeepsNotes derived.old.enabled derived.old.removals derived.new.enabled derived.new.removals }
-{
-    // Called only for the contract: the items are those of the event.
-    let _ = choice.items();
-    if let Reply::Moves(moves) = reply {
-        make_moves(net, derived, moves.as_slice());
-    }
-}
-
-fn disturb<R: Rules>(net: &mut NetState, derived: &mut Derived<R>, event: &Event)
-    requires accepted { refusal_of R.table net.old.state event.now ≡ None }
-    requires room { HasRoomTo event.now Accepted net.old.room }
-    requires fits { ⟦<Derived<R> as Observer>⟧.fits net.old derived.old }
-    ensures state { net.new.state ≡ disturbed net.old.state event.now }
+    ensures state { net.new.state ≡ disturbed net.old.state (event_of cause.entry) }
     ensures fits { ⟦<Derived<R> as Observer>⟧.fits net.new derived.new }
 {
+    let Cause::Event(event) = cause else {
+        return;
+    };
     match event {
         Event::Link(a, b) => link_reserved(net, derived, *a, *b),
         Event::Unlink(a, b) => unlink(net, derived, *a, *b),
@@ -210,6 +182,6 @@ fn disturb<R: Rules>(net: &mut NetState, derived: &mut Derived<R>, event: &Event
         Event::Flag(v, value) => set_flag(net, derived, *v, *value),
         Event::Join(v) => join(net, derived, *v),
         Event::Leave(v) => leave(net, derived, *v),
-        Event::Step(_) | Event::Show(_) | Event::Enabled | Event::Matching | Event::Status => {}
+        _ => {}
     }
 }

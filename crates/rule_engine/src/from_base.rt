@@ -39,7 +39,6 @@ fn state_of<R: Rules>(alloc: Global, size: u32, base: &Base) -> Result<NetState,
     }
 }
 
-/// Whether a node's flag is true although the rules use no flags.
 fn has_unused_flag<R: Rules>(nodes: &[NodeRecord]) -> bool
     ensures { IsTrue result ↔ ((R.table.flags ≡ false) × (list_any (λ node. node.flagged) nodes.now ≡ true)) }
 {
@@ -49,7 +48,6 @@ fn has_unused_flag<R: Rules>(nodes: &[NodeRecord]) -> bool
     has_flag(nodes)
 }
 
-/// Whether the moves spent plus the charge are within the bound.
 fn is_within<R: Rules>(net: &NetState, derived: &mut Derived<R>, spent: u32) -> bool
     requires derived { ⟦<Derived<R> as Observer>⟧.fits net.now derived.old }
     ensures within { result ≡ nat_le (spent + R.table.charge net.now.state) (charge_bound R.NODE_WEIGHT net.now.state.network) }

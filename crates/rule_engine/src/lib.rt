@@ -21,7 +21,6 @@
 
 mod base_fault;
 mod charge;
-mod climbing;
 mod collected_moves;
 mod derived;
 mod edits;
@@ -38,7 +37,6 @@ mod refresh;
 mod replies;
 mod rounds;
 mod silence;
-mod taking;
 mod touched_nodes;
 
 pub use base_fault::BaseFault;

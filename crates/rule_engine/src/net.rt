@@ -131,7 +131,8 @@ impl<R: Rules> Net<R> {
     /// The network with its counts, for look-ups.
     #[inline(always)]
     pub(crate) fn index(&self) -> IndexedNet<'_, R>
-        ensures { result.state ≡ self.now.state }
+        ensures state { result.state ≡ self.now.state }
+        ensures sound { IsState self.now.state }
     {
         IndexedNet::new(&self.net, &self.derived.suitors)
     }

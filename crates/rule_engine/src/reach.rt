@@ -29,8 +29,6 @@ impl<R: Rules> Net<R> {
         ensures few { IfOk result (λ list. length list.items ≤ reach_size self.now.state event.now) }
         ensures spares { IfOk result (λ list. Spares R.table self.now.state self.now.spent event.now list.items) }
     {
-        // Called only for the contract: the state is sound.
-        let _ = self.registers();
         if !is_disturbance(&self.index(), event) {
             return Ok(Vec::new(self.alloc));
         }

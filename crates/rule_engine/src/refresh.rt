@@ -1,8 +1,7 @@
 //! Updates the set of enabled nodes after a change of the network.
 
-ghost use Rattle.std.specs.Prelude.{◌≡◌, ◌+◌, ◌||◌, List, Bool, false, length, nat_eq, IfSome, IsTrue};
+ghost use Rattle.std.specs.Prelude.{◌≡◌, ◌+◌, ◌||◌, false, length, nat_eq, IsTrue};
 ghost use Rattle.enabled_set.specs.RemovedNames.{KeepsNotes};
-ghost use Rattle.net_state.specs.declared.change.Change.TheVariants.{Pointed, Flagged, Joined};
 ghost use Rattle.rule_machine.specs.Network.{present};
 ghost use Rattle.rule_engine.specs.EngineStates.{AreOn};
 ghost use Rattle.rule_engine.specs.DerivedValues.{WereOn};
@@ -14,48 +13,6 @@ use enabled_set::{EnabledSet, Removals};
 use net_state::Change;
 use rule_machine::{Node, Rules};
 use suitor_index::IndexedNet;
-
-fn pointed<R: Rules>(
-    state: &IndexedNet<'_, R>,
-    enabled: &mut EnabledSet,
-    removals: &mut Removals,
-    v: Node,
-    was: Option<Node>,
-    is: Option<Node>,
-    turned: bool,
-)
-    requires told { WereOn R.table enabled.old (Pointed v was is) state.now }
-    requires here { IsTrue (present state.now.state.network v) }
-    requires was { IfSome was (λ w. IsTrue (present state.now.state.network w)) }
-    requires is { IfSome is (λ w. IsTrue (present state.now.state.network w)) }
-    requires places { length enabled.old ≡ state.now.state.network.size + 1 }
-    requires none { turned ≡ false → TurnsNone R.COURTS_HIGHER_ONLY R.table.opens state.now.state (Pointed v was is) }
-    ensures set { AreOn R.table state.now.state enabled.new }
-    ensures noted { KeepsNotes enabled.old removals.old enabled.new removals.new }
-{
-    look_at_target(state, enabled, removals, was);
-    look_at_target(state, enabled, removals, is);
-    look_after_write(state, enabled, removals, v, turned);
-}
-
-fn flagged<R: Rules>(
-    state: &IndexedNet<'_, R>,
-    enabled: &mut EnabledSet,
-    removals: &mut Removals,
-    v: Node,
-    was: bool,
-    is: bool,
-    turned: bool,
-)
-    requires told { WereOn R.table enabled.old (Flagged v was is) state.now }
-    requires here { IsTrue (present state.now.state.network v) }
-    requires places { length enabled.old ≡ state.now.state.network.size + 1 }
-    requires none { turned ≡ false → TurnsNone R.COURTS_HIGHER_ONLY R.table.opens state.now.state (Flagged v was is) }
-    ensures set { AreOn R.table state.now.state enabled.new }
-    ensures noted { KeepsNotes enabled.old removals.old enabled.new removals.new }
-{
-    look_after_write(state, enabled, removals, v, turned);
-}
 
 fn look_at_ends<R: Rules>(
     state: &IndexedNet<'_, R>,
@@ -72,21 +29,6 @@ fn look_at_ends<R: Rules>(
 {
     look_at(state, enabled, removals, a);
     look_at(state, enabled, removals, b);
-}
-
-fn joined<R: Rules>(
-    state: &IndexedNet<'_, R>,
-    enabled: &mut EnabledSet,
-    removals: &mut Removals,
-    v: Node,
-)
-    requires told { WereOn R.table enabled.old (Joined v) state.now }
-    requires here { IsTrue (present state.now.state.network v) }
-    requires places { length enabled.old ≡ state.now.state.network.size + 1 }
-    ensures set { AreOn R.table state.now.state enabled.new }
-    ensures noted { KeepsNotes enabled.old removals.old enabled.new removals.new }
-{
-    look_at(state, enabled, removals, v);
 }
 
 /// Evaluates guards again at the nodes whose guard the change may have changed.
@@ -108,11 +50,15 @@ pub(crate) fn refresh<R: Rules>(
     ensures noted { KeepsNotes enabled.old removals.old enabled.new removals.new }
 {
     match change {
-        Change::Pointed(v, was, is) => pointed(state, enabled, removals, v, was, is, turned),
-        Change::Flagged(v, was, is) => flagged(state, enabled, removals, v, was, is, turned),
+        Change::Pointed(v, was, is) => {
+            look_at_target(state, enabled, removals, was);
+            look_at_target(state, enabled, removals, is);
+            look_after_write(state, enabled, removals, v, turned);
+        }
+        Change::Flagged(v, ..) => look_after_write(state, enabled, removals, v, turned),
         Change::Linked(a, b) => look_at_ends(state, enabled, removals, a, b),
         Change::Unlinked(a, b) => look_at_ends(state, enabled, removals, a, b),
-        Change::Joined(v) => joined(state, enabled, removals, v),
+        Change::Joined(v) => look_at(state, enabled, removals, v),
         Change::Removed(v) => enabled.remove_noted(v, removals),
     }
 }

@@ -4,7 +4,7 @@ ghost use Rattle.std.specs.Prelude.{◌≡◌, IfOk, OnErr, None};
 ghost use Rattle.rule_machine.specs.Least.{reply_of};
 ghost use Rattle.rule_machine.specs.Refuse.{refusal_of};
 ghost use Rattle.rule_machine.specs.declared.event.Event.TheVariants.{Link, Step, Show, Enabled, Matching, Status};
-ghost use Rattle.rule_engine.specs.ChoiceMoves.{verdicts_of};
+ghost use Rattle.rule_engine.specs.ChoiceMoves.{HaveOutcomes, verdicts_of};
 ghost use Rattle.rule_engine.specs.EventReplies.{Prepares, stored_reply};
 ghost use Rattle.rule_engine.specs.PreparedEvents.{IsPrepared, net_moment};
 
@@ -12,13 +12,13 @@ use crate::Net;
 use crate::charge::totals_of;
 use crate::collected_moves::{CollectedMoves, step_reply};
 use crate::edits::{
-    put, put_edit, refusal_of, refused_flag, refused_join, refused_leave, refused_point,
-    refused_unlink,
+    put_edit, refusal_of, refused_flag, refused_join, refused_leave, refused_point, refused_unlink,
 };
-use crate::guard::{put_reply_to_one, take_items};
+use crate::guard::{put_reply_to_one, refused_size, take_items};
 use crate::listing::{enabled_rules, mutual_edges};
-use crate::taking::{refused_size, take_verdicts};
-use rule_machine::{Choice, Counts, Event, Listing, Node, Refusal, Reply, Rules, Verdict, Want};
+use rule_machine::{
+    Choice, Counts, Event, Item, Listing, Node, Refusal, Reply, Rules, Verdict, Want,
+};
 use std::alloc::AllocError;
 use suitor_index::IndexedNet;
 
@@ -74,13 +74,22 @@ impl<R: Rules> Net<R> {
             put_reply_to_one(reply, &self.index(), items[0]);
             return Ok(());
         }
+        *reply = self.step_of(items, &[])?;
+        Ok(())
+    }
+
+    /// The reply to a step of these items, by the verdicts of those that were judged.
+    fn step_of(&mut self, items: &[Item], judged: &[Verdict]) -> Result<Reply, Want>
+        requires { HaveOutcomes R.table self.old.state items.now judged.now }
+        ensures { Prepares R.table self.old (Step items.now) result self.new }
+    {
         if let Some(refusal) = refused_size(R::CENTRAL, items.len()) {
-            return put_edit(reply, Some(refusal));
+            return Ok(Reply::Refused(refusal));
         }
         let mut gathered = CollectedMoves::new(self.alloc, items.len());
         let index = IndexedNet::new(&self.net, &self.derived.suitors);
-        let refused = take_items(&index, &mut self.chosen, &mut gathered, items);
-        put(reply, step_reply(refused, gathered))
+        let refused = take_items(&index, &mut self.chosen, &mut gathered, items, judged);
+        step_reply(refused, gathered)
     }
 
     /// Like `prepare` of a step, but takes the verdicts of the step's items. Evaluates no guard again.
@@ -93,12 +102,7 @@ impl<R: Rules> Net<R> {
         ensures counting { self.new.counting ≡ self.old.counting }
         ensures want { OnErr result (refusal_of R.table self.old.state (Step choice.now) ≡ None) }
     {
-        if let Some(refusal) = refused_size(R::CENTRAL, verdicts.len()) {
-            return Ok(Reply::Refused(refusal));
-        }
-        let mut gathered = CollectedMoves::new(self.alloc, verdicts.len());
-        let refused = take_verdicts(&mut self.chosen, &mut gathered, verdicts);
-        step_reply(refused, gathered)
+        self.step_of(choice.items(), verdicts)
     }
 
     fn show(&self, v: Node, reply: &mut Reply)

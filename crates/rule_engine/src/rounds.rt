@@ -50,18 +50,7 @@ impl<R: Rules> Net<R> {
     }
 }
 
-/// Copies the pending nodes before a step, if rounds are counted.
-fn begin_step(rounds: &mut Option<RoundCounter>, enabled: &EnabledSet)
-    ensures ready { (reply : Reply) → IsReady reply rounds.new }
-    ensures counts { (t : RuleTable) (m : Moment) → members enabled.now ≡ enabled_names t m.state → CountsRounds t m rounds.old → CountsRounds t m rounds.new }
-    ensures same { (t : RuleTable) (s : State) → members enabled.now ≡ enabled_names t s → counting_in t s rounds.new ≡ counting_in t s rounds.old }
-{
-    if let Some(counter) = rounds {
-        counter.begin_step(enabled);
-    }
-}
-
-/// Like `begin_step`, for an event that is about to be carried out: only a step has moves.
+/// Copies the pending nodes before a step, if rounds are counted. Only a step has moves.
 #[inline(always)]
 pub(crate) fn begin(rounds: &mut Option<RoundCounter>, enabled: &EnabledSet, reply: &Reply)
     ensures ready { IsReady reply.now rounds.new }
@@ -69,7 +58,9 @@ pub(crate) fn begin(rounds: &mut Option<RoundCounter>, enabled: &EnabledSet, rep
     ensures same { (t : RuleTable) (s : State) → members enabled.now ≡ enabled_names t s → counting_in t s rounds.new ≡ counting_in t s rounds.old }
 {
     if let Reply::Moves(_) = reply {
-        begin_step(rounds, enabled);
+        if let Some(counter) = rounds {
+            counter.begin_step(enabled);
+        }
     }
 }
 
@@ -82,15 +73,11 @@ pub(crate) fn follow<R: Rules>(
     spent: u32,
     reply: &Reply,
 )
-    ensures counts { (m : Moment) (event : Event) (next : State) → members enabled.now ≡ enabled_names R.table next
-        → IsState m.state → Answers R.table m.state m.spent event reply.now next → spent ≡ spent_after m.spent reply.now
-        → IsReady reply.now rounds.old → AreLeaversNoted reply.now rounds.old enabled.now removals.old
-        → CountsRounds R.table m rounds.old → CountsRounds R.table (moment next spent) rounds.new }
-    ensures count { (m : Moment) (event : Event) (next : State) → members enabled.now ≡ enabled_names R.table next
+    ensures { (m : Moment) (event : Event) (next : State) → members enabled.now ≡ enabled_names R.table next
         → IsState m.state → Answers R.table m.state m.spent event reply.now next → spent ≡ spent_after m.spent reply.now
         → IsReady reply.now rounds.old → AreLeaversNoted reply.now rounds.old enabled.now removals.old
         → CountsRounds R.table m rounds.old
-        → counting_in R.table next rounds.new ≡ next_counting R.table reply.now next (counting_in R.table m.state rounds.old) }
+        → CountsRounds R.table (moment next spent) rounds.new × (counting_in R.table next rounds.new ≡ next_counting R.table reply.now next (counting_in R.table m.state rounds.old)) }
 {
     if let Some(counter) = rounds {
         counter.follow(reply, enabled, removals);

@@ -38,8 +38,6 @@ impl<R: SilentCost> Net<R> {
         ensures pays { IfSome result (λ most. BoundsMovesAfter R.table self.now.state self.now.spent event.now most) }
         ensures less { IfSome result (λ most. most ≤ disturbance_cost R.table R.cost self.now.state event.now + disturbance_cost R.table R.excess self.now.state event.now) }
     {
-        // Called only for the contract: the state is sound.
-        let _ = self.registers();
         if self.is_quiet() {
             Some(silent_cost_of(&self.index(), event))
         } else {

@@ -62,8 +62,6 @@ impl<R: Rules> Net<R> {
         ensures cost { result ≡ disturbance_cost R.table R.cost self.now.state event.now }
         ensures grows { BoundsGrowth R.table self.now.state self.now.spent event.now result }
     {
-        // Called only for the contract: the state is sound.
-        let _ = self.registers();
         let state = self.index();
         if is_disturbance(&state, event) {
             R::cost(&TouchedNodes { state: &state }, event)

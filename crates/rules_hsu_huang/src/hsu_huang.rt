@@ -94,9 +94,7 @@ impl Rules for HsuHuang {
             Event::Unlink(a, b) => unlink_cost(touched, *a, *b),
             Event::Point(v, _) => point_cost(touched, *v),
             Event::Leave(v) => leave_cost(touched, *v),
-            Event::Flag(_, _) | Event::Join(_) => 0,
-            Event::Step(_) | Event::Show(_) => 0,
-            Event::Enabled | Event::Matching | Event::Status => 0,
+            _ => 0,
         }
     }
 }

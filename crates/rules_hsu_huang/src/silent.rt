@@ -13,7 +13,6 @@ use move_bounds::{
 use net_state::NetState;
 use rule_machine::{Event, Node};
 
-/// The silent cost of writing the pointer of a paired node.
 fn pair_cost(net: &NetState, v: Node, partner: Node, target: Option<Node>) -> u32
     requires state { IsState net.now.state }
     requires present { IsTrue (present net.now.state.network v) }
@@ -71,9 +70,7 @@ impl SilentCost for HsuHuang {
             Event::Unlink(a, b) => unlink_cost(net, *a, *b, 0),
             Event::Point(v, target) => point_cost(net, *v, *target),
             Event::Leave(v) => leave_cost(net, *v),
-            Event::Flag(_, _) | Event::Join(_) => 0,
-            Event::Step(_) | Event::Show(_) => 0,
-            Event::Enabled | Event::Matching | Event::Status => 0,
+            _ => 0,
         }
     }
 

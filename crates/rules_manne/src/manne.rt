@@ -109,13 +109,11 @@ impl Rules for Manne {
             Event::Flag(v, value) => flag_cost(touched, *v, *value),
             Event::Join(_) => 1,
             Event::Leave(v) => leave_cost(touched, *v),
-            Event::Step(_) | Event::Show(_) => 0,
-            Event::Enabled | Event::Matching | Event::Status => 0,
+            _ => 0,
         }
     }
 }
 
-// Whether the node may marry or seduce: its pointer is null and its flag is false.
 fn is_free<L: Local>(local: &L, v: Node) -> bool
     requires at { L.at local.now ≡ v }
     requires state { IsState (L.state local.now) }
@@ -124,7 +122,6 @@ fn is_free<L: Local>(local: &L, v: Node) -> bool
     local.pointer(v).is_none() && !local.flag(v)
 }
 
-// The first suitor; if there is none, the greatest open neighbour above the node.
 fn least_target<L: Local>(local: &L) -> Option<Node>
     ensures { result ≡ option_or (first_suitor (L.state local.now) (L.at local.now)) (last_open_above L.opens (L.state local.now) (L.at local.now)) }
 {

@@ -11,7 +11,6 @@ use move_bounds::{SilentCost, link_cost, unlink_cost, unmarried_neighbours};
 use net_state::NetState;
 use rule_machine::{Event, Node};
 
-/// The silent cost of writing the pointer of a paired node.
 fn pair_cost(net: &NetState, v: Node, partner: Node, target: Option<Node>) -> u32
     requires state { IsState net.now.state }
     requires present { IsTrue (present net.now.state.network v) }
@@ -77,8 +76,7 @@ impl SilentCost for Manne {
             Event::Point(v, target) => point_cost(net, *v, *target),
             Event::Flag(v, value) => flag_cost(net, *v, *value),
             Event::Leave(v) => leave_cost(net, *v),
-            Event::Join(_) | Event::Step(_) | Event::Show(_) => 0,
-            Event::Enabled | Event::Matching | Event::Status => 0,
+            _ => 0,
         }
     }
 

@@ -1,6 +1,5 @@
 -- Of two prefixes of one history, what the one published and what the other shows are of one log.
-use Rattle.snapshots.proofs.Prelude.{ℕ, ◌-◌, ◌≤◌, ◌⊎◌, ⊎_elim, List, [], ◌∷◌, ◌++◌, length, take, fold, inl, inr, arith, length-append, length-take, take-append-drop, Entry, Mark, Beginning, Posting, Publication, with_mark, published, posted, shown, but_last, IsOneLog, AreOneLog, AreComparable}
-use Rattle.std.specs.Prelude.{drop}
+use Rattle.snapshots.proofs.Prelude.{ℕ, ◌-◌, ◌≤◌, ◌⊎◌, ⊎_elim, List, [], ◌∷◌, ◌++◌, length, take, fold, inl, inr, arith, length-append, length-take, take-append-drop, Entry, Mark, Beginning, Posting, Publication, with_mark, published, posted, shown, but_last, IsOneLog, AreOneLog, AreComparable, drop}
 use mathlib.Core.List.{IsPrefix}
 use mathlib.Core.Logic.{dite}
 use native.Mathlib.Decide.{dec_le}

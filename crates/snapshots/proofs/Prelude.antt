@@ -1,5 +1,5 @@
 -- What the proofs of this crate import from the crates below and from its own definitions.
-pub use Rattle.std.proofs.Common.{◌≡◌, ◌≢◌, ℕ, ◌+◌, List, [], ◌∷◌, ◌++◌, length, set, Option, Some, None, ⊎_elim, refl, ap, sym, ◌∙◌, subst, arith, length-append, ◌<◌, map, fold, inr, ◌≤◌, take, drop, append_assoc, Bool, true, false, ◌==◌, inl, ◌-◌, ◌⊎◌, get_or, ◌&&◌, nat_le, find, replicate, is_some, IsTrue, nat_eq, cond}
+pub use Rattle.std.proofs.Common.{◌≡◌, ◌≢◌, ℕ, ◌+◌, List, [], ◌∷◌, ◌++◌, length, set, Option, Some, None, ⊎_elim, refl, ap, sym, ◌∙◌, subst, arith, length-append, ◌<◌, map, fold, inr, ◌≤◌, take, drop, append_assoc, Bool, true, false, ◌==◌, inl, ◌-◌, ◌⊎◌, get_or, ◌&&◌, nat_le, find, replicate, is_some, nat_eq, cond}
 pub use Rattle.std.proofs.lemmas.Bool.{cases_Bool, cases_lt, true≢false, le-leb, eq-eqb, eqb-true}
 pub use Rattle.std.proofs.lemmas.Bool.Decides.{nat_tests}
 pub use Rattle.std.proofs.lemmas.List.{append-nil, nil_from_length, take_at, take-append-drop, take-append-le, length-take, length-set, length-map, length-replicate, get_or-replicate, get_or-set_same, get_or-set_other, ext_get_or}
@@ -15,7 +15,7 @@ pub use Rattle.rule_machine.specs.Disturbance.{without_pointer, unless_at}
 pub use Rattle.rule_machine.specs.Network.{Network, present, names}
 pub use Rattle.rule_machine.specs.Refuse.{refusal_of}
 pub use Rattle.rule_machine.specs.RuleTable.{RuleTable}
-pub use Rattle.rule_machine.specs.Run.{Entry, Moment, Run, beginning_with}
+pub use Rattle.rule_machine.specs.Run.{Entry, Moment, Run}
 pub use Rattle.rule_machine.specs.State.{State, IsState, Registers, pointer, with_pointer, points, is_at}
 pub use Rattle.rule_machine.specs.Step.{written, after_move}
 pub use Rattle.rule_machine.specs.declared.act.Act.{Act}

@@ -1,5 +1,5 @@
 -- The effect of entries on the pointers.
-use Rattle.snapshots.proofs.Prelude.{◌≡◌, ℕ, Bool, true, false, List, [], ◌∷◌, length, map, fold, Option, None, refl, ◌∙◌, length-set, length-map, slice_set, if◌then◌else◌, Act, Update, Marry, Seduce, Abandon, Event, Link, Unlink, Point, Flag, Step, Show, Enabled, Matching, Status, Join, Leave, Moved, Reply, Accepted, Refused, Moves, Shown, EnabledAre, Pairs, Counts, is_at, unless_at, Entry, Row, pointer_in, without_pointer_at, moved_by, moved, disturbed_row, effect_of, row_effect}
+use Rattle.snapshots.proofs.Prelude.{◌≡◌, ℕ, Bool, true, false, List, [], ◌∷◌, length, map, fold, Option, None, refl, ◌∙◌, length-set, length-map, slice_set, if◌then◌else◌, Act, Update, Marry, Seduce, Abandon, Event, Unlink, Point, Leave, Moved, Reply, Accepted, Moves, is_at, unless_at, Entry, Row, pointer_in, without_pointer_at, moved_by, moved, disturbed_row, effect_of, row_effect}
 
 cleared_when : (row : Row) (v : ℕ) (b : Bool) → length (if b then slice_set row v None else row) ≡ length row
 cleared_when row v true = length-set row v None
@@ -21,24 +21,13 @@ moves_length (m ∷ moves) row = moves_length moves (moved row m) ∙ moved_leng
 disturbed_length : (row : Row) (event : Event) → length (disturbed_row row event) ≡ length row
 disturbed_length row (Unlink a b) = cleared_length (without_pointer_at row a b) b a ∙ cleared_length row a b
 disturbed_length row (Point v target) = length-set row v target
-disturbed_length row (Link a b) = refl
-disturbed_length row (Flag v value) = refl
-disturbed_length row (Join v) = refl
 disturbed_length row (Leave v) = length-set (map (unless_at v) row) v None ∙ length-map row (unless_at v)
-disturbed_length row (Step items) = refl
-disturbed_length row (Show v) = refl
-disturbed_length row Enabled = refl
-disturbed_length row Matching = refl
-disturbed_length row Status = refl
+disturbed_length row event = refl
 
 by_reply : (row : Row) (event : Event) (reply : Reply) → length (effect_of row event reply) ≡ length row
 by_reply row event Accepted = disturbed_length row event
 by_reply row event (Moves moves) = moves_length moves row
-by_reply row event (Refused refusal) = refl
-by_reply row event (Shown target) = refl
-by_reply row event (EnabledAre nodes) = refl
-by_reply row event (Pairs pairs) = refl
-by_reply row event (Counts counts) = refl
+by_reply row event reply = refl
 
 -- no entry adds a place or takes one away
 pub effect_length : (row : Row) (entry : Entry) → length (row_effect row entry) ≡ length row

@@ -5,12 +5,12 @@ use Rattle.std.specs.List.{range_with_len}
 use Rattle.rule_machine.specs.declared.act.Act.{Act}
 use Rattle.rule_machine.specs.declared.act.Act.TheVariants.{Update, Marry, Seduce, Abandon}
 use Rattle.rule_machine.specs.declared.event.Event.{Event}
-use Rattle.rule_machine.specs.declared.event.Event.TheVariants.{Link, Unlink, Point, Flag, Step, Show, Enabled, Matching, Status, Join, Leave}
+use Rattle.rule_machine.specs.declared.event.Event.TheVariants.{Unlink, Point, Join, Leave}
 use Rattle.rule_machine.specs.declared.act.Moved.{Moved}
 use Rattle.rule_machine.specs.declared.base.NodeRecord.{NodeRecord}
 use Rattle.rule_machine.specs.declared.base.Base.{Base}
 use Rattle.rule_machine.specs.declared.reply.Reply.{Reply}
-use Rattle.rule_machine.specs.declared.reply.Reply.TheVariants.{Accepted, Refused, Moves, Shown, EnabledAre, Pairs, Counts}
+use Rattle.rule_machine.specs.declared.reply.Reply.TheVariants.{Accepted, Moves}
 use Rattle.rule_machine.specs.State.{is_at}
 use Rattle.rule_machine.specs.Disturbance.{unless_at}
 use Rattle.rule_machine.specs.RuleTable.{RuleTable}
@@ -47,27 +47,16 @@ moved row m = moved_by row m.node m.act m.target
 
 -- what an accepted edit or fault does
 abbrev pub disturbed_row : Row → Event → Row
-disturbed_row row (Link a b) = row
 disturbed_row row (Unlink a b) = without_pointer_at (without_pointer_at row a b) b a
 disturbed_row row (Point v target) = slice_set row v target
-disturbed_row row (Flag v value) = row
-disturbed_row row (Join v) = row
 disturbed_row row (Leave v) = slice_set (map (unless_at v) row) v None
-disturbed_row row (Step items) = row
-disturbed_row row (Show v) = row
-disturbed_row row Enabled = row
-disturbed_row row Matching = row
-disturbed_row row Status = row
+disturbed_row row event = row
 
 -- the pointers after an event with this reply: only accepted events and the moves of a step change a pointer
 abbrev pub effect_of : Row → Event → Reply → Row
 effect_of row event Accepted = disturbed_row row event
 effect_of row event (Moves moves) = fold moved row moves
-effect_of row event (Refused refusal) = row
-effect_of row event (Shown target) = row
-effect_of row event (EnabledAre nodes) = row
-effect_of row event (Pairs pairs) = row
-effect_of row event (Counts counts) = row
+effect_of row event reply = row
 
 abbrev pub row_effect : Row → Entry → Row
 row_effect row entry = effect_of row entry.0 entry.1
@@ -110,27 +99,14 @@ here_at_start extent = here_from extent.places extent.present extent.base
 
 -- what an accepted edit or fault does to the present nodes
 abbrev pub presence_after : List Bool → Event → List Bool
-presence_after here (Link a b) = here
-presence_after here (Unlink a b) = here
-presence_after here (Point v target) = here
-presence_after here (Flag v value) = here
 presence_after here (Join v) = slice_set here v true
 presence_after here (Leave v) = slice_set here v false
-presence_after here (Step items) = here
-presence_after here (Show v) = here
-presence_after here Enabled = here
-presence_after here Matching = here
-presence_after here Status = here
+presence_after here event = here
 
 -- the present nodes after an event with this reply: only an accepted join or leave changes them
 abbrev pub here_of : List Bool → Event → Reply → List Bool
 here_of here event Accepted = presence_after here event
-here_of here event (Moves moves) = here
-here_of here event (Refused refusal) = here
-here_of here event (Shown target) = here
-here_of here event (EnabledAre nodes) = here
-here_of here event (Pairs pairs) = here
-here_of here event (Counts counts) = here
+here_of here event reply = here
 
 abbrev pub here_by : List Bool → Entry → List Bool
 here_by here entry = here_of here entry.0 entry.1

@@ -65,7 +65,6 @@ impl<L: Law> Board<L> {
     ghost use Rattle.snapshots.specs.CopyViews.{extent_of};
     ghost use Rattle.snapshots.specs.Boards.{IsBoard};
 
-    /// The board whose only copy is this one.
     fn over(alloc: Global, readers: usize, copy: RegisterCopy, history: History) -> Board<L>
         requires readers { (0 < readers) × (readers < 2 ^ 32) }
         requires board { IsBoard L.holds copy (Some copy) [] history.front.seen.log history.front.seen.book history.front.seen.log }
@@ -183,7 +182,8 @@ impl<L: Law> Board<L> {
         }
         let seat = self.copies.seat()?;
         let seen = self.copies.shown().past();
-        Ok(Reader::over(seat, seen, self.announced.again()))
+        let learnt = self.announced.again();
+        Ok(Reader { seat, seen, learnt })
     }
 
     /// Ends the board. Waits for readers that are looking; afterwards each reader sees nothing.

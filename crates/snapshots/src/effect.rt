@@ -8,20 +8,20 @@ ghost use Rattle.snapshots.specs.Row.{pointer_in, without_pointer_at, moved, dis
 use log_entry::Entry;
 use rule_machine::{Act, Event, Moved, Node, NodeRecord, Reply};
 
-fn write(row: &mut [Option<Node>], v: Node, target: Option<Node>)
-    ensures { row.new ≡ slice_set row.old v target }
+fn write<T: Copy>(list: &mut [T], v: Node, value: T)
+    ensures { list.new ≡ slice_set list.old v value }
 {
     let place = v.place();
-    if place < row.len() {
-        row[place] = target;
+    if place < list.len() {
+        list[place] = value;
     }
 }
 
-fn points_at(row: &[Option<Node>], v: Node, w: Node) -> bool
-    ensures { result ≡ is_at (pointer_in row.now v) w }
+pub(crate) fn points_at(row: &[Option<Node>], v: Node, place: usize) -> bool
+    ensures { result ≡ is_at (pointer_in row.now v) place }
 {
     match row.get(v.place()) {
-        Some(Some(target)) => *target == w,
+        Some(Some(target)) => target.place() == place,
         _ => false,
     }
 }
@@ -29,7 +29,7 @@ fn points_at(row: &[Option<Node>], v: Node, w: Node) -> bool
 fn clear(row: &mut [Option<Node>], v: Node, w: Node)
     ensures { row.new ≡ without_pointer_at row.old v w }
 {
-    if points_at(row, v, w) {
+    if points_at(row, v, w.place()) {
         write(row, v, None);
     }
 }
@@ -46,13 +46,6 @@ fn drop_at(row: &mut [Option<Node>], v: Node)
     for pointer in row.iter_mut() {
         *pointer = unless_at(*pointer, v);
     }
-}
-
-fn drop_name(row: &mut [Option<Node>], v: Node)
-    ensures { row.new ≡ slice_set (map (unless_at v) row.old) v None }
-{
-    drop_at(row, v);
-    write(row, v, None);
 }
 
 fn make_move(row: &mut [Option<Node>], m: &Moved)
@@ -82,27 +75,11 @@ fn disturb(row: &mut [Option<Node>], event: &Event)
             clear(row, *b, *a);
         }
         Event::Point(v, target) => write(row, *v, *target),
-        Event::Leave(v) => drop_name(row, *v),
+        Event::Leave(v) => {
+            drop_at(row, *v);
+            write(row, *v, None);
+        }
         _ => {}
-    }
-}
-
-pub(crate) fn take_in(row: &mut [Option<Node>], entry: &Entry)
-    ensures { row.new ≡ row_effect row.old entry.now }
-{
-    match entry.reply() {
-        Reply::Accepted => disturb(row, entry.event()),
-        Reply::Moves(moves) => make_moves(row, moves.as_slice()),
-        _ => {}
-    }
-}
-
-fn mark(here: &mut [bool], v: Node, there: bool)
-    ensures { here.new ≡ slice_set here.old v there }
-{
-    let place = v.place();
-    if place < here.len() {
-        here[place] = there;
     }
 }
 
@@ -110,34 +87,32 @@ fn turn(here: &mut [bool], event: &Event)
     ensures { here.new ≡ presence_after here.old event.now }
 {
     match event {
-        Event::Join(v) => mark(here, *v, true),
-        Event::Leave(v) => mark(here, *v, false),
+        Event::Join(v) => write(here, *v, true),
+        Event::Leave(v) => write(here, *v, false),
         _ => {}
     }
 }
 
-pub(crate) fn take_presence(here: &mut [bool], entry: &Entry)
-    ensures { here.new ≡ here_by here.old entry.now }
+pub(crate) fn take_in(row: &mut [Option<Node>], here: &mut [bool], entry: &Entry)
+    ensures row { row.new ≡ row_effect row.old entry.now }
+    ensures here { here.new ≡ here_by here.old entry.now }
 {
-    if let Reply::Accepted = entry.reply() {
-        turn(here, entry.event());
+    match entry.reply() {
+        Reply::Accepted => {
+            disturb(row, entry.event());
+            turn(here, entry.event());
+        }
+        Reply::Moves(moves) => make_moves(row, moves.as_slice()),
+        _ => {}
     }
 }
 
-/// Writes the pointers of a base's nodes.
-pub(crate) fn write_targets(row: &mut [Option<Node>], nodes: &[NodeRecord])
-    ensures { row.new ≡ fold with_target row.old nodes.now }
+pub(crate) fn put_nodes(row: &mut [Option<Node>], here: &mut [bool], nodes: &[NodeRecord])
+    ensures row { row.new ≡ fold with_target row.old nodes.now }
+    ensures here { here.new ≡ fold with_present here.old nodes.now }
 {
     for at in nodes {
         write(row, at.node, at.target);
-    }
-}
-
-/// Marks a base's nodes as present.
-pub(crate) fn mark_nodes(here: &mut [bool], nodes: &[NodeRecord])
-    ensures { here.new ≡ fold with_present here.old nodes.now }
-{
-    for at in nodes {
-        mark(here, at.node, true);
+        write(here, at.node, true);
     }
 }

@@ -72,9 +72,7 @@ impl HistoryPrefix {
         ensures this { IsPrefix self.now.seen.log result.seen.log }
         ensures that { IsPrefix other.now.seen.log result.seen.log }
     {
-        let mut both = self.seen.again();
-        both.learn(&other.seen);
-        if self.count < other.count {
+        if self.begins(other) {
             other.again()
         } else {
             self.again()
@@ -93,8 +91,8 @@ impl HistoryPrefix {
     /// Compares the numbers of marks.
     pub(crate) fn begins(&self, other: &HistoryPrefix) -> bool
         requires { other.now.seen.book ≡ self.now.seen.book }
-        ensures yes { IsTrue result → IsPrefix (published self.now.seen.log) (published other.now.seen.log) }
-        ensures no { result ≡ false → IsPrefix (published other.now.seen.log) (published self.now.seen.log) }
+        ensures yes { IsTrue result → IsPrefix self.now.seen.log other.now.seen.log }
+        ensures no { result ≡ false → IsPrefix other.now.seen.log self.now.seen.log }
     {
         let mut both = self.seen.again();
         both.learn(&other.seen);

@@ -4,11 +4,9 @@ ghost use Rattle.std.specs.Prelude.{◌≡◌, ◌+◌, ◌<◌, length, IfSome,
 ghost use mathlib.Core.List.{IsPrefix};
 ghost use Rattle.left_right.specs.Sides.{view as known};
 ghost use Rattle.rule_machine.specs.Base.{dropped};
-ghost use Rattle.snapshots.specs.History.{published, shown, IsOneLog, AreOneLog, AreComparable};
+ghost use Rattle.snapshots.specs.History.{IsOneLog, AreOneLog, AreComparable};
 ghost use Rattle.snapshots.specs.CopyViews.{CopyView, found_in, found_after};
 ghost use Rattle.snapshots.specs.Rule.{Sees};
-ghost use Rattle.snapshots.specs.Views.{extent_seen};
-ghost use Rattle.snapshots.specs.Boards.{IsReader};
 
 use crate::history::HistoryPrefix;
 use crate::note::Note;
@@ -41,9 +39,9 @@ struct VersionedSnapshot {
 /// board's name.
 #[derive(Drop)]
 pub struct Reader<L: Law> {
-    seat: SeatAt<L>,
-    seen: HistoryPrefix,
-    learnt: HistoryPrefix,
+    pub(crate) seat: SeatAt<L>,
+    pub(crate) seen: HistoryPrefix,
+    pub(crate) learnt: HistoryPrefix,
 }
 
 impl<L: Law> Model for Reader<L> {
@@ -87,14 +85,6 @@ fn peek<L: Law>(seat: SeatAt<L>, place: usize) -> (SeatAt<L>, Option<VersionedSn
 }
 
 impl<L: Law> Reader<L> {
-    pub(crate) fn over(seat: SeatAt<L>, seen: HistoryPrefix, learnt: HistoryPrefix) -> Reader<L>
-        requires { IsReader (known seat.place) seen.seen.log seen.seen.book learnt.seen.book }
-        ensures list { (result.list ≡ shown seen.seen.log) × (result.learnt ≡ published learnt.seen.log) }
-        ensures name { (result.name.book ≡ learnt.seen.book) × (result.name.extent ≡ extent_seen (known seat.place)) }
-    {
-        Reader { seat, seen, learnt }
-    }
-
     /// The pointer and the partner at a place at one moment, with the number of the last entry then.
     /// The view, which is these entries, includes all that this reader saw or learnt before.
     /// `None` if the board has ended, or if the published entries lack some that the reader learnt, which

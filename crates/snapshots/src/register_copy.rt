@@ -1,11 +1,10 @@
 //! One copy of the pointers and of the present nodes, and the operations on a copy.
 
 ghost use Rattle.std.specs.Prelude.{◌≡◌, ◌<◌, ◌&&◌, false, Some, None, IfOk, length, nat_le, slice_index_or};
-ghost use Rattle.rule_machine.specs.State.{is_at};
-ghost use Rattle.snapshots.specs.Row.{pointer_in, here_at_start};
-ghost use Rattle.snapshots.specs.CopyViews.{copy_at_start, after, held_in, found_in};
+ghost use Rattle.snapshots.specs.Row.{here_at_start};
+ghost use Rattle.snapshots.specs.CopyViews.{copy_at_start, after, found_in};
 
-use crate::effect::{mark_nodes, take_in, take_presence, write_targets};
+use crate::effect::{points_at, put_nodes, take_in};
 use crate::history::HistoryPrefix;
 use left_right::Absorb;
 use log_entry::Entry;
@@ -76,8 +75,7 @@ impl RegisterCopy {
     {
         let mut row = vec![in alloc; None; places]?;
         let mut here = vec![in alloc; false; places]?;
-        write_targets(&mut row, base.nodes.as_slice());
-        mark_nodes(&mut here, base.nodes.as_slice());
+        put_nodes(&mut row, &mut here, base.nodes.as_slice());
         Ok(RegisterCopy {
             row,
             here,
@@ -104,8 +102,7 @@ impl RegisterCopy {
     pub(crate) fn take_in(&mut self, entry: &Entry, front: u32, past: &HistoryPrefix)
         ensures { self.new ≡ after self.old entry.now front past.now.seen.log past.now.seen.book }
     {
-        take_in(&mut self.row, entry);
-        take_presence(&mut self.here, entry);
+        take_in(&mut self.row, &mut self.here, entry);
         self.front = front;
         self.past = past.again();
     }
@@ -126,20 +123,12 @@ impl RegisterCopy {
     pub(crate) fn find(&self, place: usize) -> Option<(Option<Node>, Option<Node>)>
         ensures { result ≡ found_in self.now.row self.now.here place }
     {
-        if is_here(&self.here, place) {
-            self.held(place)
-        } else {
-            None
+        if !is_here(&self.here, place) {
+            return None;
         }
-    }
-
-    /// Like `find`, but whether or not a node is present; `None` only if there is no such place.
-    fn held(&self, place: usize) -> Option<(Option<Node>, Option<Node>)>
-        ensures { result ≡ held_in self.now.row place }
-    {
         let pointer = *self.row.get(place)?;
         let partner = match pointer {
-            Some(w) if points_back(&self.row, w, place) => Some(w),
+            Some(w) if points_at(&self.row, w, place) => Some(w),
             _ => None,
         };
         Some((pointer, partner))
@@ -168,15 +157,6 @@ fn is_here(here: &[bool], place: usize) -> bool
     match here.get(place) {
         Some(there) => *there,
         None => false,
-    }
-}
-
-fn points_back(row: &[Option<Node>], w: Node, place: usize) -> bool
-    ensures { result ≡ is_at (pointer_in row.now w) place }
-{
-    match row.get(w.place()) {
-        Some(Some(target)) => target.place() == place,
-        _ => false,
     }
 }
 

@@ -42,23 +42,15 @@ pub(crate) enum Copies<L: Law> {
 }
 
 impl LoneCopy {
+    #[tactic(auto, using(crate::proofs::Boards::lone_shown))]
     fn show(&mut self, entry: &Entry)
         requires { entries_of (waiting self.old.posted) ≡ entry.now ∷ [] }
         ensures copy { self.new.copy ≡ fold absorbed self.old.copy (waiting self.old.posted) }
         ensures pending { waiting self.new.posted ≡ [] }
     {
-        take_waiting(&mut self.copy, &self.posted, entry);
-        self.posted = None;
-    }
-}
-
-#[tactic(auto, using(crate::proofs::Boards::lone_shown))]
-fn take_waiting(copy: &mut RegisterCopy, posted: &Option<LonePost>, entry: &Entry)
-    requires { entries_of (waiting posted.now) ≡ entry.now ∷ [] }
-    ensures { copy.new ≡ fold absorbed copy.old (waiting posted.now) }
-{
-    if let Some(posted) = posted {
-        copy.take_in(entry, posted.front, &posted.past);
+        if let Some(posted) = self.posted.take() {
+            self.copy.take_in(entry, posted.front, &posted.past);
+        }
     }
 }
 
@@ -70,16 +62,6 @@ fn copied(entry: &Entry) -> Result<Entry, AllocError>
         unreachable!()
     };
     Ok(copy)
-}
-
-fn append<L: Law>(writer: &mut Pair<L>, posted: Posted) -> bool
-    ensures desk { writer.new.desk ≡ writer.old.desk }
-    ensures pending { Appends result posted (drop writer.old.behind writer.old.log.items) (drop writer.new.behind writer.new.log.items) }
-{
-    match writer.append(posted) {
-        Ok(()) => true,
-        Err(_) => false,
-    }
 }
 
 /// Waits for readers that still read the other copy.
@@ -136,7 +118,7 @@ impl<L: Law> Copies<L> {
                 let Ok(entry) = copied(entry) else {
                     return false;
                 };
-                append(writer, Posted { entry, front, past })
+                writer.append(Posted { entry, front, past }).is_ok()
             }
         }
     }
@@ -175,7 +157,6 @@ impl<L: Law> Copies<L> {
         true
     }
 
-    /// A reader's place, which knows what the writer knows.
     pub(crate) fn seat(&mut self) -> Result<SeatAt<L>, NoPlace>
         ensures shown { shown_in self.new ≡ shown_in self.old }
         ensures known { known_in self.new ≡ known_in self.old }

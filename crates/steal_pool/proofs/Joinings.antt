@@ -1,6 +1,5 @@
 -- All ends of a deque: how they are made, and how they are joined again.
-use Rattle.steal_pool.proofs.Prelude.{IsPermutation, ◌≡◌, ℕ, suc, ◌+◌, ◌-◌, ◌<◌, ◌≤◌, List, [], ◌∷◌, ◌++◌, length, map, All, get_or, sym, refl, ap, ◌∙◌, subst, arith, sum_by, swap_remove, get_or-map, length-map, fold-map, sum_by-append, sum_by-cons, sum_by-le, sum_by_push, sum_by-swap_remove, All-append, All-take, All-drop, All-map, All-pop, All-push, All-permutation, IsPermutation-swap_remove, Ledger, Owner, Thief, DequeEnd, ledger, joined_ledger, DequeName, owner_deque, owner_ledger, thief_deque, thief_ledger, end_deque, end_ledger, end_owners, EndView, end_hold, end_taken, AreAllEnds, AreJoined}
-use Rattle.std.proofs.Common.{Some}
+use Rattle.steal_pool.proofs.Prelude.{IsPermutation, ◌≡◌, ℕ, suc, ◌+◌, ◌-◌, ◌<◌, ◌≤◌, List, [], ◌∷◌, ◌++◌, length, map, All, get_or, sym, refl, ap, ◌∙◌, subst, arith, sum_by, swap_remove, get_or-map, length-map, fold-map, sum_by-append, sum_by-cons, sum_by-le, sum_by_push, sum_by-swap_remove, All-append, All-take, All-drop, All-map, All-pop, All-push, All-permutation, IsPermutation-swap_remove, Ledger, Owner, Thief, DequeEnd, ledger, joined_ledger, DequeName, owner_deque, owner_ledger, thief_deque, thief_ledger, end_deque, end_ledger, end_owners, EndView, end_hold, end_taken, AreAllEnds, AreJoined, Some}
 use lib.Seq.{take-append_seam, drop-append_seam}
 use Rattle.steal_pool.specs.declared.deque.end.DequeEnd.TheVariants as end
 

@@ -28,8 +28,8 @@ pub use Rattle.steal_pool.specs.Once.{times, StandOnce, AllStandOnce, places_of}
 pub use Rattle.steal_pool.specs.VerdictTables.{laid, HavePlacesBelow, at_place, taken_in, IsVerdictTable, taken_by}
 pub use Rattle.steal_pool.specs.declared.deque.block.Block.{Block}
 pub use Rattle.steal_pool.specs.declared.deque.end.DequeEnd.{DequeEnd}
-pub use Rattle.steal_pool.specs.declared.deque.handles.Owner.{Owner}
-pub use Rattle.steal_pool.specs.declared.deque.handles.Thief.{Thief}
+pub use Rattle.steal_pool.specs.declared.deque.owner.Owner.{Owner}
+pub use Rattle.steal_pool.specs.declared.deque.thief.Thief.{Thief}
 pub use Rattle.steal_pool.specs.declared.deque.ledger.Ledger.{Ledger}
 pub use Rattle.steal_pool.specs.declared.hand.Hand.{Hand}
 pub use Rattle.steal_pool.specs.declared.hand.Share.{Share}

@@ -4,8 +4,8 @@ use Rattle.std.specs.List.{sum_by}
 use Rattle.std.specs.declared.alloc.Global.{Global}
 use Rattle.crossbeam_deque.specs.Handles.{view, worker_deque, stealer_deque, worker_view}
 use Rattle.steal_pool.specs.declared.deque.ledger.Ledger.{Ledger}
-use Rattle.steal_pool.specs.declared.deque.handles.Owner.{Owner}
-use Rattle.steal_pool.specs.declared.deque.handles.Thief.{Thief}
+use Rattle.steal_pool.specs.declared.deque.owner.Owner.{Owner}
+use Rattle.steal_pool.specs.declared.deque.thief.Thief.{Thief}
 use Rattle.steal_pool.specs.declared.deque.end.DequeEnd.{DequeEnd}
 use Rattle.steal_pool.specs.declared.deque.end.DequeEnd.TheVariants as end
 

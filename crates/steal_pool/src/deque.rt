@@ -10,7 +10,6 @@
 
 mod block;
 mod end;
-mod handles;
 mod joining;
 mod ledger;
 mod owner;
@@ -18,6 +17,7 @@ mod thief;
 
 pub(crate) use block::Block;
 pub(crate) use end::{DequeEnd, ends};
-pub(crate) use handles::{Owner, Thief};
 pub(crate) use joining::gather;
 pub(crate) use ledger::Ledger;
+pub(crate) use owner::Owner;
+pub(crate) use thief::Thief;

@@ -74,7 +74,11 @@ fn work_all<R: Rules + Sync, G: Gate + Sync, T: Threads + Wait + Sync>(
     ensures judged { IfOk result (λ shares. All (AreJudged R.table net.now.state choice.now) shares.items) }
 {
     if low.len() < 2 {
-        return work_first(rt, net, choice, gate, low);
+        let mut shares = Vec::new(*low.allocator());
+        if let Some(hand) = low.pop() {
+            shares.push(hand.work(rt, net, choice, gate)?)?;
+        }
+        return Ok(shares);
     }
     let high = low.split_off(low.len() / 2)?;
     let (ours, theirs) = join(
@@ -91,24 +95,5 @@ fn work_all<R: Rules + Sync, G: Gate + Sync, T: Threads + Wait + Sync>(
     let mut shares = ours?;
     let mut others = theirs?;
     shares.append(&mut others)?;
-    Ok(shares)
-}
-
-fn work_first<R: Rules, G: Gate, W: Wait>(
-    rt: &W,
-    net: &Net<R>,
-    choice: &Choice,
-    gate: &G,
-    mut hands: Vec<Hand>,
-) -> Result<Vec<Share>, Want>
-    requires few { length hands.items < 2 }
-    requires choice { All (λ hand. (hand_hold hand).count ≡ length choice.now) hands.items }
-    ensures hold { IfOk result (λ shares. map judged_hold shares.items ≡ map hand_hold hands.items) }
-    ensures judged { IfOk result (λ shares. All (AreJudged R.table net.now.state choice.now) shares.items) }
-{
-    let mut shares = Vec::new(*hands.allocator());
-    if let Some(hand) = hands.pop() {
-        shares.push(hand.work(rt, net, choice, gate)?)?;
-    }
     Ok(shares)
 }

@@ -11,12 +11,6 @@ use crate::{Gate, Hand, Share};
 use rule_engine::{Choice, Net, Rules, Verdict, Want};
 use std::sync::Wait;
 
-#[derive(Drop)]
-struct Worker<'a, G: Gate> {
-    number: u32,
-    gate: &'a G,
-}
-
 impl Hand {
     /// Takes blocks of places until no block is left, and judges each place.
     /// Before each place the worker passes the gate with the worker's number and the place, and may have to
@@ -38,13 +32,12 @@ impl Hand {
     {
         let Hand {
             alloc,
-            worker: number,
+            worker,
             mut end,
         } = self;
-        let worker = Worker { number, gate };
         let mut verdicts = Vec::with_capacity(alloc, choice.items().len())?;
         while let Some(block) = end.take(rt) {
-            judge_block(rt, &worker, net, choice, block, &mut verdicts);
+            judge_block(rt, gate, worker, net, choice, block, &mut verdicts);
         }
         // Unused room is freed at once, so that the next list need not ask the system for more.
         verdicts.shrink_to_fit();
@@ -52,10 +45,10 @@ impl Hand {
     }
 }
 
-// The list has room for the verdicts.
 fn judge_block<R: Rules, G: Gate, W: Wait>(
     rt: &W,
-    worker: &Worker<G>,
+    gate: &G,
+    worker: u32,
     net: &Net<R>,
     choice: &Choice,
     block: Block,
@@ -67,7 +60,7 @@ fn judge_block<R: Rules, G: Gate, W: Wait>(
     ensures room { vec_capacity verdicts.old ≤ vec_capacity verdicts.new }
 {
     for place in block.first..block.end {
-        worker.gate.pass(rt, worker.number, place);
+        gate.pass(rt, worker, place);
         verdicts.push(net.verdict(choice, place)).unwrap();
     }
 }

@@ -1,19 +1,29 @@
 //! The end that puts the blocks, splits the whole and joins it again.
 
 ghost use Rattle.std.specs.Prelude.{◌≡◌, ◌<◌, [], ◌∷◌, IfOk, IfSome, MatchOption};
+ghost use Rattle.crossbeam_deque.specs.Handles.{worker_flavor, worker_view};
 ghost use Rattle.steal_pool.specs.Ledgers.{ledger, rest_of, part_of, joined_ledger, IsBlockWithin, KnowsAll, Takes};
-ghost use Rattle.steal_pool.specs.Ends.{owner_deque, owner_ledger, thief_deque, thief_ledger};
 
 use crate::deque::block::width;
 use crate::deque::ledger::{Cut, EachOnce, Ledger, Put, Took};
-use crate::deque::{Block, Owner, Thief};
+use crate::deque::{Block, Thief};
 use crossbeam_deque::Worker;
 use std::alloc::{AllocError, Global};
 
 // How many blocks a new deque has room for: enough for more than 65,535 places. The deque can grow.
 const MOST_AT_FIRST: u32 = 2_048;
 
+/// The one end of a deque that puts blocks, makes the other ends, and joins what these ends took.
+#[derive(Drop)]
+pub(crate) struct Owner {
+    pub(crate) worker: Worker<Block, Global, Ledger, EachOnce>,
+    ghost in_order: { worker_flavor worker ≡ 0 },
+    ghost has_part: { 0 < (worker_view worker).parts },
+}
+
 impl Owner {
+    ghost use Rattle.steal_pool.specs.Ends.{owner_deque, owner_ledger, thief_deque, thief_ledger};
+
     /// A new deque of the places 0 to `count - 1`, the least in front, as the owner's end.
     /// `AllocError` if memory runs out.
     pub fn filled(alloc: Global, count: u32) -> Result<Owner, AllocError>
@@ -40,7 +50,7 @@ impl Owner {
     {
         let stealer = self.worker.stealer()?;
         let pass = self.worker.another::<Cut>();
-        Ok(Thief::of(stealer, pass))
+        Ok(Thief { stealer, pass })
     }
 
     /// Takes the block in front; `None` if the deque had no block at one moment of the call.
@@ -60,6 +70,7 @@ impl Owner {
         ensures same { owner_deque self.new ≡ owner_deque self.old }
         ensures both { owner_ledger self.new ≡ joined_ledger (owner_ledger self.old) (thief_ledger thief) }
     {
-        self.worker.absorb::<Cut>(thief.into_pass());
+        let Thief { stealer: _, pass } = thief;
+        self.worker.absorb::<Cut>(pass);
     }
 }

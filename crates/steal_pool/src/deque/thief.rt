@@ -3,33 +3,25 @@
 ghost use Rattle.std.specs.Prelude.{◌≡◌, ◌<◌, [], ◌∷◌, IfSome, MatchOption};
 ghost use Rattle.crossbeam_deque.specs.Handles.{view, IsPassOf, stealer_deque, stealer_flavor};
 ghost use Rattle.steal_pool.specs.Ledgers.{IsBlockWithin, Takes};
-ghost use Rattle.steal_pool.specs.Ends.{thief_deque, thief_ledger};
 
+use crate::deque::Block;
 use crate::deque::ledger::{EachOnce, Ledger, Took};
-use crate::deque::{Block, Thief};
 use crossbeam_deque::{Pass, Steal, Stealer};
 use std::alloc::Global;
 use std::sync::Wait;
 
-impl Thief {
-    pub(crate) fn of(
-        stealer: Stealer<Block, Global, Ledger, EachOnce>,
-        pass: Pass<Block, Ledger>,
-    ) -> Thief
-        requires own_deque { IsPassOf (stealer_deque stealer) pass }
-        requires in_order { stealer_flavor stealer ≡ 0 }
-        requires has_part { 0 < (view pass).parts }
-        ensures { (thief_deque result ≡ stealer_deque stealer) × (thief_ledger result ≡ view pass) }
-    {
-        Thief { stealer, pass }
-    }
+/// An end of a deque that only takes blocks. The pass says, for contracts, what this end has taken.
+#[derive(Drop)]
+pub(crate) struct Thief {
+    pub(crate) stealer: Stealer<Block, Global, Ledger, EachOnce>,
+    pub(crate) pass: Pass<Block, Ledger>,
+    ghost own_deque: { IsPassOf (stealer_deque stealer) pass },
+    ghost in_order: { stealer_flavor stealer ≡ 0 },
+    ghost has_part: { 0 < (view pass).parts },
+}
 
-    pub(crate) fn into_pass(self) -> Pass<Block, Ledger>
-        ensures pass { IsPassOf (thief_deque self) result × (view result ≡ thief_ledger self) }
-    {
-        let Thief { stealer: _, pass } = self;
-        pass
-    }
+impl Thief {
+    ghost use Rattle.steal_pool.specs.Ends.{thief_deque, thief_ledger};
 
     /// Takes the block in front; `None` if the deque had no block at one moment of the call.
     /// Tries again if another thread takes a block first.

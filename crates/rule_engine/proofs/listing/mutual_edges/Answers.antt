@@ -1,6 +1,4 @@
-use Rattle.rule_engine.proofs.Prelude.{◌≡◌, ◌∙◌, ℕ, List, Option, IsTrue, ap, filter, filter_map, subst, sym, range_with_len, filter_passes, pair_above, State, Registers, answered_by, is_lower_end, found_kept, pairs_scanned}
-use Rattle.std.specs.List.{All}
-use Rattle.std.specs.Result.{IfOk}
+use Rattle.rule_engine.proofs.Prelude.{◌≡◌, ◌∙◌, ℕ, List, Option, IsTrue, ap, filter, filter_map, subst, sym, range_with_len, filter_passes, pair_above, State, Registers, answered_by, is_lower_end, found_kept, pairs_scanned, All, IfOk}
 use Rattle.rule_engine.proofs.NodeScans.{none_found}
 use Rattle.rule_engine.proofs.listing.mutual_edges.Goals as goal
 

@@ -1,28 +1,19 @@
-use Rattle.rule_engine.proofs.Prelude.{◌∙◌, ap, arith, subst, sym, Some, IsReady, CountsRounds, answers_keep, counting_in, moment, next_counting, ◌<◌}
+use Rattle.rule_engine.proofs.Prelude.{◌∙◌, ap, arith, subst, sym, Some, IsReady, CountsRounds, answers_keep, counting_in, moment, next_counting, ◌<◌, AreLeaversNoted}
 use Rattle.rule_engine.proofs.CountedRounds.{count_after, counts_after, counts_to}
-use Rattle.rule_engine.specs.Rounds.{AreLeaversNoted}
 use Rattle.rule_engine.proofs.rounds.follow.Goals as goal
 
-pub returns-in-Some-clause-counts : goal.returns-in-Some-clause-counts
-returns-in-Some-clause-counts g c m event next is good answers spent ready noted it =
+pub returns-in-Some : goal.returns-in-Some
+returns-in-Some g c m event next is good answers spent ready noted it =
     let laws = g.R.Rules.laws in
     let t = g.R.Rules.table in
     let reply = c.args.reply.now in
     let below : c.args.spent < 4294967296 = omega arith in
-    counts_after t m (moment next c.args.spent) event reply c.in-Some.counter c.follow.new.self
-    (answers_keep t laws.table m.state good m.spent event reply next answers) answers spent below
-    (subst (λ o. IsReady reply o) c.in-Some.is ready) c.follow.ensures.few
-    (counts_to t c.args.enabled.now c.args.removals.now m event reply next c.in-Some.counter c.follow.new.self answers is
-    (subst (λ o. AreLeaversNoted reply o c.args.enabled.now c.args.removals.now) c.in-Some.is noted) c.follow.ensures.counted)
-    (subst (λ o. CountsRounds t m o) c.in-Some.is it)
-
-pub returns-in-Some-clause-count : goal.returns-in-Some-clause-count
-returns-in-Some-clause-count g c m event next is good answers spent ready noted it =
-    let t = g.R.Rules.table in
-    let reply = c.args.reply.now in
-    let below : c.args.spent < 4294967296 = omega arith in
-    ap (λ n. Some n) (count_after t c.args.enabled.now c.args.removals.now m (moment next c.args.spent) event reply c.in-Some.counter c.follow.new.self answers spent below
-    (subst (λ o. IsReady reply o) c.in-Some.is ready) is
-    (subst (λ o. AreLeaversNoted reply o c.args.enabled.now c.args.removals.now) c.in-Some.is noted) c.follow.ensures.count
-    (subst (λ o. CountsRounds t m o) c.in-Some.is it))
-    ∙ sym (ap (λ o. next_counting t reply next (counting_in t m.state o)) c.in-Some.is)
+    let at_hand = subst (λ o. IsReady reply o) c.in-Some.is ready in
+    let left = subst (λ o. AreLeaversNoted reply o c.args.enabled.now c.args.removals.now) c.in-Some.is noted in
+    let counted = subst (λ o. CountsRounds t m o) c.in-Some.is it in (
+      counts_after t m (moment next c.args.spent) event reply c.in-Some.counter c.follow.new.self
+          (answers_keep t laws.table m.state good m.spent event reply next answers) answers spent below at_hand c.follow.ensures.few
+          (counts_to t c.args.enabled.now c.args.removals.now m event reply next c.in-Some.counter c.follow.new.self answers is left c.follow.ensures.counted) counted,
+      ap (λ n. Some n) (count_after t c.args.enabled.now c.args.removals.now m (moment next c.args.spent) event reply c.in-Some.counter c.follow.new.self answers spent below at_hand is left c.follow.ensures.count counted)
+          ∙ sym (ap (λ o. next_counting t reply next (counting_in t m.state o)) c.in-Some.is),
+    )

@@ -1,5 +1,4 @@
-use Rattle.std.specs.Prelude.{◌≡◌, fold, drop}
-use Rattle.snapshots.specs.Row.{moved}
+use Rattle.snapshots.proofs.Prelude.{◌≡◌, fold, drop, moved}
 use Rattle.snapshots.proofs.effect.make_moves.Given as goal
 
 -- the moves that are left lead to the end of all of them

@@ -1,5 +1,4 @@
-use Rattle.steal_pool.proofs.Prelude.{◌≡◌, [], refl, arith, All-pop, end_hold, end_taken, DequeEnd, hand_hold}
-use Rattle.std.proofs.Common.{Some}
+use Rattle.steal_pool.proofs.Prelude.{◌≡◌, [], refl, arith, All-pop, end_hold, end_taken, DequeEnd, hand_hold, Some}
 use Rattle.steal_pool.proofs.VerdictTables.{shifted, as_long}
 use Rattle.steal_pool.proofs.EachPlace.{one_numbered}
 use Rattle.steal_pool.proofs.dealing.deal.Goals as goal

@@ -1,5 +1,4 @@
-use Rattle.steal_pool.proofs.Prelude.{◌≡◌, ℕ, ◌+◌, List, ◌++◌, length, map, sym, refl, ap, ◌∙◌, subst, arith, sum_by, All-pop, sum_by_push, DequeEnd, end_hold, end_taken, AreAllEnds, Verdict, verdicts_of, length-verdicts_of, judged_hold, judged_places, judged_verdicts, AreJudged, at_place, taken_by, laid, HavePlacesBelow, IsVerdictTable}
-use Rattle.std.proofs.Common.{Some}
+use Rattle.steal_pool.proofs.Prelude.{◌≡◌, ℕ, ◌+◌, List, ◌++◌, length, map, sym, refl, ap, ◌∙◌, subst, arith, sum_by, All-pop, sum_by_push, DequeEnd, end_hold, end_taken, AreAllEnds, Verdict, verdicts_of, length-verdicts_of, judged_hold, judged_places, judged_verdicts, AreJudged, at_place, taken_by, laid, HavePlacesBelow, IsVerdictTable, Some}
 use Rattle.steal_pool.proofs.EachPlace.{moves_taken}
 use Rattle.steal_pool.proofs.VerdictTables.{no_weight, fits, lays, shifted}
 use Rattle.steal_pool.proofs.merging.lay_out.Goals as goal

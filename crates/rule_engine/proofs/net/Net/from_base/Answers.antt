@@ -1,5 +1,4 @@
-use Rattle.rule_engine.proofs.Prelude.{◌∙◌, sym, ap, subst, arith, State, Moment, charge_bound, few_names}
-use Rattle.std.specs.List.{list_any}
+use Rattle.rule_engine.proofs.Prelude.{◌∙◌, sym, ap, subst, arith, State, Moment, charge_bound, few_names, list_any}
 use Rattle.rule_machine.specs.Base.{IsBaseMoment}
 use Rattle.rule_machine.specs.declared.base.Base.{Base}
 use Rattle.rule_engine.specs.BaseFaults.{IsStateOf}
@@ -32,24 +31,22 @@ with_derived-requires-clause-budget g c =
     let begun = begins t weight c.args.size base s of_base fit (sym c.is_within.ensures.within ∙ c.if-not-is_within.false) in
     record { is_state = begun.is_state; within = begun.within; unflagged = begun.unflagged }
 
-pub returns-clause-ok : goal.returns-clause-ok
-returns-clause-ok g c =
+pub returns : goal.returns
+returns g c =
     let t = g.R.Rules.table in
     let weight = g.R.Rules.NODE_WEIGHT in
     let base : Base = c.args.base.now in
     let s : State = c.in_ok-state.state.state in
     let of_base : IsStateOf c.args.size base s = c.in_ok-state.ensures.state in
     let fit = fit_flags t c.args.size base c.as_slice.result.now s c.has_unused_flag.result c.as_slice.ensures c.has_unused_flag.ensures c.if-has_unused_flag.false of_base in
-    subst (λ (m : Moment). IsBaseMoment t (charge_bound weight) c.args.size base m) (sym c.in_ok-net.ensures.moment)
-    (begins t weight c.args.size base s of_base fit (sym c.is_within.ensures.within ∙ c.if-not-is_within.false))
-
-pub returns-clause-few : goal.returns-clause-few
-returns-clause-few g c =
-    let base : Base = c.args.base.now in
-    let s : State = c.in_ok-state.state.state in
-    let of_base : IsStateOf c.args.size base s = c.in_ok-state.ensures.state in
     let count = nodes_counted c.args.size base s of_base in
     let few = few_names s.network in
     let size = of_base.lines.size_is in
     let small = of_base.few.names in
-    (of_base.few, omega (arith, count, few, size, small))
+    record {
+      ok = subst (λ (m : Moment). IsBaseMoment t (charge_bound weight) c.args.size base m) (sym c.in_ok-net.ensures.moment)
+          (begins t weight c.args.size base s of_base fit (sym c.is_within.ensures.within ∙ c.if-not-is_within.false));
+      few = (of_base.few, omega (arith, count, few, size, small));
+      uncounted = c.in_ok-net.ensures.uncounted;
+      fault = tt;
+    }

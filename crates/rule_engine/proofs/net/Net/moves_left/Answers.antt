@@ -1,7 +1,5 @@
-use Rattle.rule_engine.proofs.Prelude.{◌≡◌, ◌∙◌, arith, ap, sym, subst, node_count, BoundsMoves, smaller_bounds, NetView}
-use Rattle.move_bounds.specs.MovesLeft.{smaller_bound}
+use Rattle.rule_engine.proofs.Prelude.{◌≡◌, ◌∙◌, arith, ap, sym, subst, node_count, BoundsMoves, smaller_bounds, NetView, smaller_bound, inside_from}
 use Rattle.move_bounds.proofs.SilentMoves.{silent_moves}
-use Rattle.containment_laws.proofs.IdleNodes.{inside_from}
 use Rattle.rule_engine.proofs.net.Net.moves_left.Goals as goal
 
 pub returns-then-is_quiet-clause-promise : goal.returns-then-is_quiet-clause-promise

@@ -8,4 +8,4 @@ returns-then-is_disturbance g c =
     let s = c.args.self.now.state in
     let same = ap (λ (n : NetView). n.state) c.self.view_is in
     c.is_in_reach.ensures ∙ ap (λ u. is_in_reach u event c.args.v) same
-    ∙ sym (ap (λ b. b && is_in_reach s event c.args.v) (ap (λ u. disturbs t u event) (sym c.index.ensures) ∙ sym c.is_disturbance.ensures ∙ c.if-is_disturbance.true))
+    ∙ sym (ap (λ b. b && is_in_reach s event c.args.v) (ap (λ u. disturbs t u event) (sym c.index.ensures.state) ∙ sym c.is_disturbance.ensures ∙ c.if-is_disturbance.true))

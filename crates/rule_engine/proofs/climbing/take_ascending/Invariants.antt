@@ -1,5 +1,0 @@
-use Rattle.rule_engine.proofs.NodeMarks.{AreTaken}
-use Rattle.rule_engine.proofs.climbing.take_ascending.Given as goal
-
-abbrev pub invariant-loop-item : goal.invariant-loop-item
-invariant-loop-item g l = AreTaken g.R.Rules.table l.state.state l.items l.item-index l.gathered.whole l.gathered.moves.items

@@ -1,7 +1,0 @@
-use Rattle.rule_engine.proofs.Prelude.{All, ◌∙◌, sym, subst, Step, IsMoveIn}
-use Rattle.rule_engine.proofs.ReplyMoves.{told_moves_in}
-use Rattle.rule_engine.proofs.events.carry_out_step.Goals as goal
-
-pub make_moves-requires-clause-moves : goal.make_moves-requires-clause-moves
-make_moves-requires-clause-moves g c =
-    subst (All (IsMoveIn c.args.net.now.state.network)) (sym c.as_slice.ensures) (told_moves_in g.R.Rules.table g.R.Rules.laws.table c.args.net.now.state c.requires.reply.0 (Step c.args.choice.now) c.in-Moves.moves (sym c.in-Moves.is ∙ c.requires.reply.1))
