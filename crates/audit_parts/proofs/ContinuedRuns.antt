@@ -1,9 +1,11 @@
 -- A text whose run goes on where that of another ends.
-use Rattle.audit_parts.proofs.Prelude.{◌≡◌, ℕ, ◌+◌, List, [], ◌∷◌, ◌++◌, Ok, Err, Option, IfSome, length, arith, refl, sym, ap, subst, ◌∙◌, append_assoc, append-nil, RuleSet, NumberedMoment, LogPart, EntryPart, BasePart, Passes, Base, base_of, entries_in, table_of, lines_with_ends, base_head, base_text, link_text, numbers_line, node_record_text, entry_text, header_text, base_lines, base_text_is, Memory, Summary, Counts, IsAccepted, BeginsWithTranscript, BeginsBase, Opening, Named, Based, opening_text, part_text, parts_text, count_after, size_of, IsTranscript, Chain, Stops, comes_once, nothing_stops, accepted_no_damage, begun, chain_behind, chain_same, comes_no_base, told_comes, followed, run_once, transcript_ends, whole, IsJudged, AreLinesBefore, AcceptedIsContinued, AcceptedIsWhole, ContinuedIsDamaged, EndBasesAreAccepted, EndsAreContinued, ContinuesRun, base_at, end_moment, EndsLine, IsSeam, Meets, Verdict, counted_both, joined_verdict}
+use Rattle.audit_parts.proofs.Prelude.{◌≡◌, ℕ, ◌+◌, List, [], ◌∷◌, ◌++◌, Ok, Err, Option, IfSome, length, arith, refl, sym, ap, subst, ◌∙◌, append_assoc, append-nil, RuleSet, NumberedMoment, LogPart, EntryPart, BasePart, Passes, Base, base_of, entries_in, table_of, lines_with_ends, base_text, Memory, Summary, Counts, IsAccepted, BeginsWithTranscript, BeginsBase, Opening, Based, opening_text, parts_text, size_of, IsTranscript, Chain, Stops, comes_once, nothing_stops, accepted_no_damage, begun, chain_behind, chain_same, comes_no_base, told_comes, followed, run_once, transcript_ends, whole, IsJudged, AreLinesBefore, AcceptedIsContinued, AcceptedIsWhole, ContinuedIsDamaged, EndBasesAreAccepted, EndsAreContinued, ContinuesRun, base_at, end_moment, EndsLine, IsSeam, Meets, Verdict, counted_both, joined_verdict}
+use Rattle.auditor.proofs.TextEnds.{counted_transcript, summary_of}
 use Rattle.audit_parts.proofs.CutTranscripts.{reopens_end, text_at}
 use Rattle.audit_parts.proofs.Lines.{ends_both, ends_line}
-use Rattle.audit_parts.proofs.MeetingTexts.{all_both, entries_both, parts_text_both, passes_both, summary_of}
+use Rattle.audit_parts.proofs.MeetingTexts.{all_both, entries_both, parts_text_both, passes_both}
 use Rattle.audit_parts.proofs.PartLaws.{bases_are_seams, joined_is_accepted, joined_judged, parts_are_accepted, second_damage_moves}
+use Rattle.audit_parts.proofs.ShortLines.{accepted_is_short}
 
 -- ---- a transcript consists of whole lines
 
@@ -11,33 +13,14 @@ ends_lines : {X : Type 0} (text : X → List ℕ) (xs : List X) → EndsLine (li
 ends_lines text [] = tt
 ends_lines text (x ∷ xs) = ends_both (text x ++ 10 ∷ []) (lines_with_ends text xs) (ends_line (text x) [] tt) (ends_lines text xs)
 
-ends_base : (rules : RuleSet) (size : ℕ) (base : Base) → EndsLine (base_text rules size base)
-ends_base rules size base =
-    let nodes = lines_with_ends node_record_text base.nodes in
-    let edges = lines_with_ends link_text base.edges in
-    let others = ends_both nodes edges (ends_lines node_record_text base.nodes) (ends_lines link_text base.edges) in
-    let lines = ends_both (numbers_line base ++ 10 ∷ []) (nodes ++ edges) (ends_line (numbers_line base) [] tt) others in
-    subst EndsLine (sym (base_text_is rules size base)) (ends_both (base_head rules size ++ 10 ∷ []) (base_lines base) (ends_line (base_head rules size) [] tt) lines)
-
-ends_part : (rules : RuleSet) (size count : ℕ) (part : LogPart) → EndsLine (part_text rules size count part)
-ends_part rules size count (EntryPart entry) = ends_line (entry_text (count + 1) entry.0 entry.1) [] tt
-ends_part rules size count (BasePart base) = ends_base rules size base
-
-ends_parts : (rules : RuleSet) (size count : ℕ) (log : List LogPart) → EndsLine (parts_text rules size count log)
-ends_parts rules size count [] = tt
-ends_parts rules size count (part ∷ log) =
-    ends_both (part_text rules size count part) (parts_text rules size (count_after count part) log) (ends_part rules size count part) (ends_parts rules size (count_after count part) log)
-
-ends_opening : (rules : RuleSet) (o : Opening) → EndsLine (opening_text rules o)
-ends_opening rules (Named size count) = ends_line (header_text rules size count) [] tt
-ends_opening rules (Based size base) = ends_base rules size base
+pub accepted_is_whole : AcceptedIsWhole
+accepted_is_whole text accepted =
+    let x = accepted_is_short text accepted in
+    subst EndsLine (sym x.is) (ends_lines (λ line. line) x.lines)
 
 transcript_is_whole : (bytes : List ℕ) (rules : RuleSet) (o : Opening) (log : List LogPart) (end : NumberedMoment) → IsTranscript bytes rules o log end → EndsLine bytes
 transcript_is_whole bytes rules o log end is =
-    subst EndsLine (sym is.text) (ends_both (opening_text rules o) (parts_text rules (size_of o) is.start.count log) (ends_opening rules o) (ends_parts rules (size_of o) is.start.count log))
-
-pub accepted_is_whole : AcceptedIsWhole
-accepted_is_whole text (c, x) = transcript_is_whole text x.rules x.opening x.log x.end x.transcript
+    accepted_is_whole bytes (summary_of (entries_in log), counted_transcript bytes rules o log end is)
 
 -- ---- the first text with the base of its end behind it
 
@@ -106,14 +89,7 @@ module _ (first second : List ℕ) (k : ContinuesRun first second) where
   counted = summary_of (entries_in k.log)
 
   is_accepted : IsAccepted first counted
-  is_accepted = record {
-    rules = k.rules;
-    opening = k.opening;
-    log = k.log;
-    end = k.end;
-    transcript = k.transcript;
-    counts = record { entries = refl; epochs = refl; moves = refl };
-  }
+  is_accepted = counted_transcript first k.rules k.opening k.log k.end k.transcript
 
   based_is_judged : (v : Verdict) → IsJudged first v → IsJudged based v
   based_is_judged (Ok c) x = based_is_accepted c x
@@ -201,18 +177,11 @@ end_bases_are_accepted first end is =
     let at = end_moment end in
     let base = base_of at.count at.moment in
     let size = size_of is.opening in
-    record {
-      rules = end.rules;
-      opening = Based size base;
-      log = [];
-      end = at;
-      transcript = record {
-        start = at;
-        opens = reopens_end first end.rules is.opening is.log at is.transcript;
-        text = base_is first end.rules is.opening is.log at is.transcript ∙ sym (append-nil (text_at end.rules size at));
-        parts = tt;
-        not_too_many = is.transcript.not_too_many;
-        passes = refl;
-      };
-      counts = record { entries = refl; epochs = refl; moves = refl };
-    }
+    counted_transcript (base_at end.rules at) end.rules (Based size base) [] at (record {
+      start = at;
+      opens = reopens_end first end.rules is.opening is.log at is.transcript;
+      text = base_is first end.rules is.opening is.log at is.transcript ∙ sym (append-nil (text_at end.rules size at));
+      parts = tt;
+      not_too_many = is.transcript.not_too_many;
+      passes = refl;
+    })

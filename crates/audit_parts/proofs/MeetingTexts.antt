@@ -1,5 +1,6 @@
 -- Two texts that meet, and the joined one.
 use Rattle.audit_parts.proofs.Prelude.{◌≡◌, ℕ, ◌+◌, List, [], ◌∷◌, ◌++◌, get_or, length, refl, sym, ap, subst, ◌∙◌, append_assoc, append-nil, length-append, arith, AllByRecursion, sum_by-append, RuleSet, RuleTable, LogPart, EntryPart, BasePart, NumberedMoment, Passes, base_of, entries_in, Entry, table_of, entry_text, base_text, Summary, Counts, IsAccepted, BeginsWithTranscript, Opening, Based, count_after, opening_text, part_text, parts_text, size_of, IsLogPart, IsTranscript, disturbances_in, epoch_count, move_count, reply_moves, followed, transcript_ends, whole, follows_text, opening_once, parts_behind, passes_first, passes_onto, passes_rise, step_count, EndsLine, IsSeam, counted_both}
+use Rattle.auditor.proofs.TextEnds.{counted_transcript, summary_of}
 use Rattle.audit_parts.proofs.CutTranscripts.{IsNoHeader, cut_transcript, reopens_end, text_at}
 use Rattle.audit_parts.proofs.SeamRuns.{reopens, seam_behind, seam_first, seam_is}
 
@@ -157,10 +158,6 @@ whole_accepted own seam behind lines seamed c d x y =
       counts = counts_both x.log y.log c d x.counts y.counts;
     }
 
--- the counts of a log
-abbrev pub summary_of : List Entry → Summary
-summary_of log = record { entries = length log; epochs = epoch_count log; moves = move_count log }
-
 pub record BothAccepted (own seam behind : List ℕ) : Type 0 where
   pub first : Summary
   pub second : Summary
@@ -186,29 +183,16 @@ parts_accepted own seam behind lines seamed c x =
     record {
       first = summary_of (entries_in k.before);
       second = summary_of (entries_in k.behind);
-      first_is = record {
-        rules = rules;
-        opening = o;
-        log = k.before;
-        end = k.middle;
-        transcript = record {
-          start = is.start;
-          opens = is.opens;
-          text = ap (λ (l : List ℕ). own ++ l) (sym same) ∙ k.text;
-          parts = parts.0;
-          not_too_many = omega (arith, rises, few);
-          passes = k.reached;
-        };
-        counts = record { entries = refl; epochs = refl; moves = refl };
-      };
-      second_is = record {
-        rules = rules;
-        opening = Based size base;
-        log = k.behind;
-        end = x.end;
-        transcript = record { start = k.middle; opens = begun; text = k.rest_is; parts = parts.1; not_too_many = few; passes = k.goes_on };
-        counts = record { entries = refl; epochs = refl; moves = refl };
-      };
+      first_is = counted_transcript (own ++ seam) rules o k.before k.middle (record {
+        start = is.start;
+        opens = is.opens;
+        text = ap (λ (l : List ℕ). own ++ l) (sym same) ∙ k.text;
+        parts = parts.0;
+        not_too_many = omega (arith, rises, few);
+        passes = k.reached;
+      });
+      second_is = counted_transcript (seam ++ behind) rules (Based size base) k.behind x.end
+          (record { start = k.middle; opens = begun; text = k.rest_is; parts = parts.1; not_too_many = few; passes = k.goes_on });
     }
   where
     no_header : IsNoHeader (seam ++ behind)

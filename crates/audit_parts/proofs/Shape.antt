@@ -1,5 +1,6 @@
 -- A transcript may begin with the base of any state that a run has reached.
 use Rattle.audit_parts.proofs.Prelude.{◌≡◌, ℕ, zero, suc, ◌+◌, ◌*◌, ◌<◌, ◌≤◌, Bool, true, false, cond, not, T, List, [], ◌∷◌, filter, length, map, Option, None, Some, IfSome, IsTrue, nat_eq, nat_le, refl, sym, subst, ◌∙◌, ◌-◌, inl, inr, arith, AllByRecursion, range_with_len, ranked, is_sorted, below_all, is_lt, nat_cmp, ordering_then, Ordering, Less, Equal, Greater, and_parts, leb-false, length-map, count_by-le-length, length-filter, Event, Unlink, Point, Flag, Step, Show, Enabled, Matching, Status, Join, Leave, Refusal, UnknownNode, SelfLoop, AlreadyLinked, TooManyEdges, Reply, Accepted, Moves, Shown, EnabledAre, Pairs, Network, pair_cmp, edge, edge_count, edge_list, is_end, linked, names, node_count, present, State, IsState, pointer, RuleTable, both_present, max_edges, refusal_of, AnswersBy, Does, spent_after, base_of, node_record_at, Entry, Moment, Run, cond_none, left_was, pair_total, linked_back, linked_present, present_range, pointer_linked, IsIn, count_all, count_into, edges_without_repeats, edges_contain, edges_len, in_edges, IsName, EdgesRise, IsEdgeAbove, IsPlace, IsShaped, NodesRise}
+use Rattle.std.proofs.lemmas.List.FromFn.{length-range_with_len}
 use Rattle.std.specs.FinMap as finmap
 use Rattle.rule_machine.specs.declared.event.Event.TheVariants.{Link}
 use Rattle.rule_machine.specs.declared.reply.Reply.TheVariants.{Counts}
@@ -148,15 +149,11 @@ first_rise (e ∷ es) fit sorted =
 
 -- ---- the base
 
-range_length : (a n : ℕ) → length (range_with_len a n) ≡ n
-range_length a zero = refl
-range_length a (suc n) = let rest = range_length (a + 1) n in omega (arith, rest)
-
 pub nodes_few : (net : Network) → node_count net ≤ net.size
 nodes_few net =
     let kept = length-filter (present net) (range_with_len 1 net.size) in
     let few = count_by-le-length (present net) (range_with_len 1 net.size) in
-    let all = range_length 1 net.size in
+    let all = length-range_with_len 1 net.size in
     omega (arith, kept, few, all)
 
 pub base_shaped : (number size : ℕ) (m : Moment) → IsState m.state → m.state.network.size ≡ size → size ≤ 65535 → number ≤ 16777216 → edge_count m.state.network ≤ 1048576 → m.spent ≤ 2 * edge_count m.state.network + 3 * node_count m.state.network → IsShaped (base_of number m)

@@ -103,10 +103,7 @@ entry_further rules size p q line rest behind cut good =
     }
   where
     stand_is : (at : NumberedMoment) (s : State) (spent count : ℕ) → at.moment.state ≡ s → at.moment.spent ≡ spent → at.count ≡ count → at ≡ record { moment = record { state = s; spent = spent }; count = count }
-    stand_is at s spent count state moves number =
-        ap (λ (x : State). record { moment = record { state = x; spent = at.moment.spent }; count = at.count }) state
-        ∙ ap (λ (n : ℕ). record { moment = record { state = s; spent = n }; count = at.count }) moves
-        ∙ ap (λ (n : ℕ). record { moment = record { state = s; spent = spent }; count = n }) number
+    stand_is at s spent count state moves number = λ i. record { moment = record { state = state i; spent = moves i }; count = number i }
 
 -- a base is that of the run's state
 pub base_further : (rules : RuleSet) (size : ℕ) (p : Position) (rest behind : List ℕ) (base : Base) → p.number ≤ 16777216 → base ≡ base_of p.number (stand_of p).moment → rest ≡ base_text rules size base ++ behind → IsFurther rules size p rest p behind

@@ -64,8 +64,7 @@ abbrev stand : State → ℕ → Entry → ℕ → NumberedMoment
 stand s spent entry count = record { moment = record { state = s; spent = spent_after spent entry.1 }; count = count }
 
 stand_once : (s u : State) (spent : ℕ) (e f : Entry) (count : ℕ) → e ≡ f → s ≡ u → stand s spent e count ≡ stand u spent f count
-stand_once s u spent e f count same there =
-    ap (λ (x : State). stand x spent e count) there ∙ ap (λ (x : Entry). stand u spent x count) same
+stand_once s u spent e f count same there = λ i. stand (there i) spent (same i) count
 
 told_once : (rules : RuleSet) (size : ℕ) (at : NumberedMoment) (rest : List ℕ) (e f : Entry) (next following : NumberedMoment) (behind after : List ℕ) → NextPart rules size at rest (EntryPart e) next behind → NextPart rules size at rest (EntryPart f) following after → SameStep (EntryPart e) (EntryPart f) next following behind after
 told_once rules size at rest e f next following behind after x y =

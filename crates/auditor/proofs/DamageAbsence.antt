@@ -1,10 +1,11 @@
 -- A text without a damage cannot fail to be a transcript.
-use Rattle.auditor.proofs.Prelude.{◌≡◌, ◌≢◌, ℕ, zero, suc, ◌+◌, ◌≤◌, ◌==◌, Bool, true, false, ◌⊎◌, inl, inr, List, [], ◌∷◌, ◌++◌, Option, None, Some, length, refl, sym, ap, subst, ◌∙◌, arith, eqb-true, nil_from_length, RuleSet, State, LogPart, EntryPart, BasePart, NumberedMoment, base_of, entries_in, Entry, beginning_with, Answers, spent_after, table_of, base_head, base_text, first_line, SpellsEntry, Header, SpellsHeader, first_line-splits, cons_parts, AuditFault, BadHeader, NotALine, OutOfOrder, NotTheMachines, BadBase, Summary, Named, Based, Opens, size_of, NextPart, epoch_count, move_count, TranscriptPrefix, BeginsBase, HasBadHeader, HasNoEntry, IsDamage, CommonPrefix, SpellsNoHead, SpellsNoHeader, line_feeds, IsAccepted}
+use Rattle.auditor.proofs.Prelude.{◌≡◌, ◌≢◌, ℕ, zero, suc, ◌+◌, ◌≤◌, ◌==◌, Bool, true, false, ◌⊎◌, inl, inr, List, [], ◌∷◌, ◌++◌, Option, None, Some, length, refl, sym, ap, subst, ◌∙◌, arith, eqb-true, nil_from_length, RuleSet, State, LogPart, EntryPart, BasePart, NumberedMoment, base_of, entries_in, Entry, beginning_with, Answers, spent_after, table_of, base_head, base_text, first_line, SpellsEntry, Header, SpellsHeader, first_line-splits, cons_parts, AuditFault, BadHeader, NotALine, OutOfOrder, NotTheMachines, BadBase, Summary, Named, Based, Opens, size_of, NextPart, TranscriptPrefix, BeginsBase, HasBadHeader, HasNoEntry, IsDamage, CommonPrefix, SpellsNoHead, SpellsNoHeader, line_feeds, IsAccepted}
 use Rattle.auditor.proofs.Steps.{follows_more}
 use Rattle.auditor.proofs.Chains.{comes_shorter, entry_line_is}
 use Rattle.auditor.proofs.Bases.{base_or_breaks}
 use Rattle.auditor.proofs.AuditPositions.{all_good, opened_follows, header_splits, base_splits}
 use Rattle.auditor.proofs.ReadOpenings.{broken, nowhere}
+use Rattle.auditor.proofs.TextEnds.{counted_transcript, summary_of}
 
 -- ---- a text goes on with another, or parts from it
 
@@ -71,15 +72,7 @@ record Neither (bytes : List ℕ) : Type 0 where
 -- something is left, since what there is would be a transcript
 left : (bytes : List ℕ) (at : TranscriptPrefix bytes) → Neither bytes → at.rest ≢ []
 left bytes at neither none =
-    let entries = entries_in at.log in
-    neither.refused (record { entries = length entries; epochs = epoch_count entries; moves = move_count entries }) (record {
-      rules = at.rules;
-      opening = at.follows.opening;
-      log = at.log;
-      end = at.end;
-      transcript = all_good bytes at.rules at.log at.end at.rest at.follows none;
-      counts = record { entries = refl; epochs = refl; moves = refl };
-    })
+    neither.refused (summary_of (entries_in at.log)) (counted_transcript bytes at.rules at.follows.opening at.log at.end (all_good bytes at.rules at.log at.end at.rest at.follows none))
 
 no_line : (bytes : List ℕ) (at : TranscriptPrefix bytes) → Neither bytes → (BeginsBase at.rest → ⊥) → HasNoEntry at.rest (first_line at.rest) → ⊥
 no_line bytes at neither other damage =

@@ -1,52 +1,18 @@
 -- The rounds of the epochs so far, entry by entry.
-use Rattle.auditor.proofs.Prelude.{◌≡◌, ℕ, ◌+◌, ◌≤◌, false, cond, List, [], ◌∷◌, ◌++◌, Option, None, Some, refl, sym, ap, subst, ◌∙◌, append_assoc, append-nil, arith, true≢false, Event, Reply, Accepted, Refused, Moves, Shown, EnabledAre, Pairs, State, IsState, RuleTable, LogPart, EntryPart, BasePart, NumberedMoment, Entry, table_of, CostedEpoch, TranscriptCursor, stand_of, rounds_in_rows, rounds_ended_by, rounds_along, changes, IsEntryAhead, rows_by, IsReadyAhead, FollowsAhead, KeepsCount}
+use Rattle.auditor.proofs.Prelude.{◌≡◌, ℕ, ◌+◌, ◌≤◌, false, cond, List, Option, None, Some, refl, sym, ap, subst, ◌∙◌, arith, true≢false, Event, Reply, Accepted, Refused, Moves, Shown, EnabledAre, Pairs, State, IsState, LogPart, EntryPart, BasePart, NumberedMoment, Entry, table_of, CostedEpoch, TranscriptCursor, stand_of, rounds_in_rows, rounds_ended_by, changes, IsEntryAhead, rows_by, IsReadyAhead, FollowsAhead, KeepsCount}
 use Rattle.rule_machine.specs.declared.reply.Reply.TheVariants.{Counts}
 use Rattle.std.specs.Prelude.{is_some}
 use Rattle.round_laws.proofs.Counting.{answer_followed}
 use Rattle.machine_laws.specs.StatesAfterReplies.{followed}
-use Rattle.round_laws.specs.Rounds.{rounds_in}
 use Rattle.round_counter.proofs.Counting.{counted_next, unchanged}
 use Rattle.round_counter.specs.Counting.{log_after, start_after}
 use Rattle.judged_rounds.specs.declared.count.JudgedRounds.{JudgedRounds}
 use Rattle.judged_rounds.specs.Following.{AreOnBut, CountsIn}
 use Rattle.auditor.proofs.TextEnds.{comes_no_base, entry_once, kept_begins, told_comes}
 
+-- an entry, and the state after it
 abbrev pub Stage : Type 0
 Stage = Entry × State
-
--- the state in which the present epoch began, and its entries
-abbrev pub Present : Type 0
-Present = State × List Entry
-
-abbrev pub present_after : Present → Stage → Present
-present_after p step = (start_after p.0 step.0.1 step.1, log_after p.1 step.0.0 step.0.1)
-
-abbrev pub present_until : Present → List Stage → Present
-present_until p [] = p
-present_until p (step ∷ path) = present_until (present_after p step) path
-
--- the rounds of the epochs that are over
-abbrev pub ended_along : RuleTable → Present → List Stage → List ℕ
-ended_along t p [] = []
-ended_along t p (step ∷ path) = rounds_ended_by step.0.1 (rounds_in t p.0 p.1) ++ ended_along t (present_after p step) path
-
-pub along_all : (t : RuleTable) (p : Present) (path : List Stage) → ended_along t p path ++ rounds_in t (present_until p path).0 (present_until p path).1 ∷ [] ≡ rounds_along t p.0 p.1 path
-along_all t p [] = refl
-along_all t p (step ∷ path) =
-    append_assoc (rounds_ended_by step.0.1 (rounds_in t p.0 p.1)) (ended_along t (present_after p step) path) _
-    ∙ ap (λ (l : List ℕ). rounds_ended_by step.0.1 (rounds_in t p.0 p.1) ++ l) (along_all t (present_after p step) path)
-
--- ---- one more entry
-
-pub present_more : (p : Present) (path : List Stage) (step : Stage) → present_until p (path ++ step ∷ []) ≡ present_after (present_until p path) step
-present_more p [] step = refl
-present_more p (first ∷ path) step = present_more (present_after p first) path step
-
-pub ended_more : (t : RuleTable) (p : Present) (path : List Stage) (step : Stage) → ended_along t p (path ++ step ∷ []) ≡ ended_along t p path ++ rounds_ended_by step.0.1 (rounds_in t (present_until p path).0 (present_until p path).1)
-ended_more t p [] step = append-nil (rounds_ended_by step.0.1 (rounds_in t p.0 p.1))
-ended_more t p (first ∷ path) step =
-    ap (λ (l : List ℕ). rounds_ended_by first.0.1 (rounds_in t p.0 p.1) ++ l) (ended_more t (present_after p first) path step)
-    ∙ sym (append_assoc (rounds_ended_by first.0.1 (rounds_in t p.0 p.1)) (ended_along t (present_after p first) path) _)
 
 -- what a reply makes of the rows
 pub rounds_over : (reply : Reply) (number : ℕ) (s : State) (cost : Option ℕ) (rounds : ℕ) (row : CostedEpoch) → rounds_in_rows (rows_by reply number s cost rounds row).0 ≡ rounds_ended_by reply row.rounds

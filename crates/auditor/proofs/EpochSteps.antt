@@ -1,74 +1,19 @@
 -- The epochs of the entries so far, entry by entry.
-use Rattle.auditor.proofs.Prelude.{◌≡◌, ℕ, ◌+◌, List, [], ◌∷◌, ◌++◌, Option, None, Some, All, length, map, refl, sym, ap, ap₂, subst, ◌∙◌, append_assoc, append-nil, arith, length-map, map-append, Base, EpochStart, Event, Reply, Accepted, RuleSet, State, RuleTable, LogPart, EntryPart, BasePart, NumberedMoment, entries_in, Entry, Moment, Epoch, epoch_at, epochs_by, epochs_from, open_at, Answers, spent_after, table_of, weight_of, passes_run, IsPath, epochs_are_bounded, cost_by, CostedEpoch, TranscriptCursor, NextPart, Position, IsFurther, counted_part, position_at, stand_of, IsPositionAfter, IsOpened, IsPassed, AreCostedEpochs, IsNextCost, IsWithinItsBound, costs_along, costs_by, costs_in, epochs_in, first_epoch, rows_at, rows_by, rounds_in_rows, rounds_ended_by, start_at_part, log_at, KeepsCount, max_entries, ◌≤◌}
+use Rattle.auditor.proofs.Prelude.{◌≡◌, ℕ, ◌+◌, List, [], ◌∷◌, ◌++◌, Option, None, Some, All, map, refl, sym, ap, ap₂, subst, ◌∙◌, append_assoc, append-nil, arith, map-append, Base, EpochStart, Reply, Accepted, RuleSet, State, LogPart, EntryPart, BasePart, NumberedMoment, entries_in, Entry, Moment, Epoch, epoch_at, epochs_by, epochs_from, open_at, Answers, spent_after, table_of, weight_of, IsPath, epochs_are_bounded, cost_by, CostedEpoch, TranscriptCursor, NextPart, Position, IsFurther, counted_part, position_at, stand_of, IsPositionAfter, IsOpened, IsPassed, AreCostedEpochs, IsNextCost, IsWithinItsBound, costs_along, costs_by, costs_in, epochs_in, first_epoch, rows_at, rows_by, rounds_along, rounds_in_rows, rounds_ended_by, start_at_part, log_at, KeepsCount, max_entries, ◌≤◌}
+use Rattle.round_counter.specs.Counting.{log_after, start_after}
 use Rattle.round_laws.specs.Rounds.{rounds_in}
 use Rattle.judged_rounds.specs.declared.count.JudgedRounds.{JudgedRounds}
 use Rattle.judged_rounds.specs.Following.{CountsIn}
-use Rattle.auditor.proofs.EpochRounds.{Present, present_until, ended_along, along_all, present_more, ended_more, rounds_over, rounds_next}
+use Rattle.auditor.proofs.EpochRounds.{Stage, rounds_over, rounds_next}
 use Rattle.auditor.proofs.TextEnds.{told_comes}
 use Rattle.auditor.proofs.AuditPositions.{entries_add, reached_more}
 use Rattle.auditor.proofs.Spent.{is_table, is_charged, opens_in_state, opens_within}
 
--- an entry, and the state after it
-abbrev pub Stage : Type 0
-Stage = Entry × State
-
 abbrev pub entries : List Stage → List Entry
 entries path = map (λ step. step.0) path
 
--- the end of a path
-abbrev pub path_end : Moment → List Stage → Moment
-path_end start [] = start
-path_end start (step ∷ path) = path_end (record { state = step.1; spent = spent_after start.spent step.0.1 }) path
-
--- the epochs that are over, and the one that has begun
-abbrev pub epochs_until : ℕ → Epoch → List Stage → List Epoch × Epoch
-epochs_until number epoch [] = ([], epoch)
-epochs_until number epoch (step ∷ path) =
-    let turn = epochs_by step.0.1 number step.1 epoch in
-    let rest = epochs_until (number + 1) turn.1 path in (turn.0 ++ rest.0, rest.1)
-
-pub until_all : (number : ℕ) (epoch : Epoch) (path : List Stage) → (epochs_until number epoch path).0 ++ (epochs_until number epoch path).1 ∷ [] ≡ epochs_from number epoch path
-until_all number epoch [] = refl
-until_all number epoch (step ∷ path) =
-    let turn = epochs_by step.0.1 number step.1 epoch in
-    let rest = epochs_until (number + 1) turn.1 path in
-    append_assoc turn.0 rest.0 (rest.1 ∷ []) ∙ ap (λ (l : List Epoch). turn.0 ++ l) (until_all (number + 1) turn.1 path)
-
--- one more entry
-pub end_more : (start : Moment) (path : List Stage) (step : Stage) → path_end start (path ++ step ∷ []) ≡ record { state = step.1; spent = spent_after (path_end start path).spent step.0.1 }
-end_more start [] step = refl
-end_more start (first ∷ path) step = end_more (record { state = first.1; spent = spent_after start.spent first.0.1 }) path step
-
-pub path_more : (t : RuleTable) (start : Moment) (path : List Stage) (step : Stage) → IsPath t start path → Answers t (path_end start path).state (path_end start path).spent step.0.0 step.0.1 step.1 → IsPath t start (path ++ step ∷ [])
-path_more t start [] step is answers = (answers, tt)
-path_more t start (first ∷ path) step is answers = (is.0, path_more t (record { state = first.1; spent = spent_after start.spent first.0.1 }) path step is.1 answers)
-
--- the epochs after one more entry
-pub until_more : (number last : ℕ) (epoch : Epoch) (path : List Stage) (step : Stage) → last ≡ number + length path → (past : List Epoch) (next : Epoch)
-    → past ≡ (epochs_until number epoch path).0 ++ (epochs_by step.0.1 last step.1 (epochs_until number epoch path).1).0 → next ≡ (epochs_by step.0.1 last step.1 (epochs_until number epoch path).1).1
-    → (past ≡ (epochs_until number epoch (path ++ step ∷ [])).0) × (next ≡ (epochs_until number epoch (path ++ step ∷ [])).1)
-until_more number last epoch [] step at past next before is =
-    let same : last ≡ number = omega (arith, at) in
-    (before ∙ ap (λ (n : ℕ). (epochs_by step.0.1 n step.1 epoch).0) same ∙ sym (append-nil _), is ∙ ap (λ (n : ℕ). (epochs_by step.0.1 n step.1 epoch).1) same)
-until_more number last epoch (first ∷ path) step at past next before is =
-    let turn = epochs_by first.0.1 number first.1 epoch in
-    let rest = epochs_until (number + 1) turn.1 path in
-    let then = epochs_by step.0.1 last step.1 rest.1 in
-    let more = until_more (number + 1) last turn.1 path step (omega (arith, at)) (rest.0 ++ then.0) next refl is in
-    (before ∙ append_assoc turn.0 rest.0 then.0 ∙ ap (λ (l : List Epoch). turn.0 ++ l) more.0, more.1)
-
 abbrev moment : State → ℕ → Moment
 moment s n = record { state = s; spent = n }
-
--- what one more entry adds to the costs
-costs_more : (cost : State → Event → ℕ) (start : Moment) (path : List Stage) (step : Stage)
-    → costs_along cost start.state (path ++ step ∷ []) ≡ costs_along cost start.state path ++ costs_by step.0.1 (cost (path_end start path).state step.0.0)
-costs_more cost start [] step = append-nil (costs_by step.0.1 (cost start.state step.0.0))
-costs_more cost start (first ∷ path) step =
-    let next : Moment = record { state = first.1; spent = spent_after start.spent first.0.1 } in
-    let here = costs_by first.0.1 (cost start.state first.0.0) in
-    ap (λ (l : List (Option ℕ)). here ++ l) (costs_more cost next path step)
-    ∙ sym (append_assoc here (costs_along cost first.1 path) (costs_by step.0.1 (cost (path_end next path).state step.0.0)))
 
 -- ---- what a reply makes of the rows
 
@@ -107,39 +52,44 @@ Counted p q part it is' =
     (start : State) (log : List Entry) → CountsIn start log p.state it → it.counter.rounds ≤ p.counted.entries
     → CountsIn (start_at_part start part q.state) (log_at log part) q.state is' × (is'.counter.rounds ≤ q.counted.entries)
 
--- The bytes begin with a transcript that leads to the position; its entries lead through these states, these
--- epochs of it are over, and this one has begun. Its rounds are counted.
+-- The bytes begin with a transcript that leads to the position. Whatever stages follow its own: the rows so far,
+-- with what those stages add to them, are the rows of all stages. The rounds are counted.
 pub record IsListed (bytes : List ℕ) (rules : RuleSet) (size : ℕ) (p : Position) (rest : List ℕ) (past : List CostedEpoch) (row : CostedEpoch) (it : JudgedRounds) : Type 0 where
   pub reached : IsPositionAfter bytes rules size p rest
   pub path : List Stage
   pub entries_are : entries_in reached.log ≡ entries path
-  pub is_path : IsPath (table_of rules) reached.follows.transcript.start.moment path
-  pub ends : path_end reached.follows.transcript.start.moment path ≡ (stand_of p).moment
-  pub past_is : epochs_in past ≡ (epochs_until (reached.follows.transcript.start.count + 1) (first_epoch reached.follows.opening reached.follows.transcript.start) path).0
-  pub row_is : row.epoch ≡ (epochs_until (reached.follows.transcript.start.count + 1) (first_epoch reached.follows.opening reached.follows.transcript.start) path).1
-  pub costs_are : costs_in (past ++ row ∷ []) ≡ None ∷ costs_along (cost_by rules) reached.follows.transcript.start.moment.state path
-  pub rounds_are : rounds_in_rows past ≡ ended_along (table_of rules) (reached.follows.transcript.start.moment.state, []) path
+  pub goes_on : (more : List Stage) → IsPath (table_of rules) (stand_of p).moment more → IsPath (table_of rules) reached.follows.transcript.start.moment (path ++ more)
+  pub epochs : (more : List Stage) → epochs_in past ++ epochs_from (p.number + 1) row.epoch more ≡ epochs_from (reached.follows.transcript.start.count + 1) (first_epoch reached.follows.opening reached.follows.transcript.start) (path ++ more)
+  pub costs : (more : List Stage) → costs_in (past ++ row ∷ []) ++ costs_along (cost_by rules) p.state more ≡ None ∷ costs_along (cost_by rules) reached.follows.transcript.start.moment.state (path ++ more)
+  pub present : State × List Entry
+  pub rounds : (more : List Stage) → rounds_in_rows past ++ rounds_along (table_of rules) present.0 present.1 more ≡ rounds_along (table_of rules) reached.follows.transcript.start.moment.state [] (path ++ more)
   pub rounds_now : row.rounds ≡ it.counter.rounds
   pub by_rules : it.rules ≡ rules
-  pub counts : CountsIn (present_until (reached.follows.transcript.start.moment.state, []) path).0 (present_until (reached.follows.transcript.start.moment.state, []) path).1 p.state it
+  pub counts : CountsIn present.0 present.1 p.state it
   pub few : it.counter.rounds ≤ p.counted.entries
+
+-- the rounds of the present epoch, by the rules of the run
+present_rounds : (rules : RuleSet) (start : State) (log : List Entry) (s : State) (row : CostedEpoch) (it : JudgedRounds) → row.rounds ≡ it.counter.rounds → it.rules ≡ rules → CountsIn start log s it → row.rounds ≡ rounds_in (table_of rules) start log
+present_rounds rules start log s row it now ruled counts =
+    now ∙ counts.counted.rounds ∙ ap (λ (r : RuleSet). rounds_in (table_of r) start log) ruled
 
 pub listed_start : (bytes : List ℕ) (rules : RuleSet) (size : ℕ) (begun : EpochStart) (p : Position) (rest : List ℕ) (row : CostedEpoch) (it : JudgedRounds) → IsOpened bytes rules size begun p rest → row.epoch ≡ open_at begun (stand_of p).moment → row.cost ≡ None → row.rounds ≡ 0 → it.counter.rounds ≡ 0 → it.rules ≡ rules → CountsIn p.state [] p.state it → IsListed bytes rules size p rest [] row it
 listed_start bytes rules size begun p rest row it o is none zero no_round ruled counts =
     let begins : o.start ≡ o.follows.transcript.start = o.follows.transcript.passes in
+    let first : row.epoch ≡ first_epoch o.follows.opening o.follows.transcript.start =
+    is ∙ ap (λ (q : Position). open_at begun (stand_of q).moment) o.opening ∙ ap (λ (s : EpochStart). open_at s o.start.moment) o.begun_is ∙ ap (first_epoch o.follows.opening) begins in
     let at : IsListed bytes rules size (position_at o.start) rest [] row it = record {
       reached = record { log = []; follows = o.follows; size_is = o.size_is; counts = record { entries = refl; epochs = refl; moves = refl } };
       path = [];
       entries_are = refl;
-      is_path = tt;
-      ends = ap (λ (x : NumberedMoment). x.moment) (sym begins);
-      past_is = refl;
-      row_is = is ∙ ap (λ (q : Position). open_at begun (stand_of q).moment) o.opening ∙ ap (λ (s : EpochStart). open_at s o.start.moment) o.begun_is ∙ ap (first_epoch o.follows.opening) begins;
-      costs_are = ap (λ (c : Option ℕ). c ∷ []) none;
-      rounds_are = refl;
+      goes_on = λ more path. subst (λ (x : NumberedMoment). IsPath (table_of rules) x.moment more) begins path;
+      epochs = λ more. ap₂ (λ (x : NumberedMoment) (e : Epoch). epochs_from (x.count + 1) e more) begins first;
+      costs = λ more. ap₂ (λ (c : Option ℕ) (x : NumberedMoment). c ∷ costs_along (cost_by rules) x.moment.state more) none begins;
+      present = (o.start.moment.state, []);
+      rounds = λ more. ap (λ (x : NumberedMoment). rounds_along (table_of rules) x.moment.state [] more) begins;
       rounds_now = zero ∙ sym no_round;
       by_rules = ruled;
-      counts = subst (λ (x : NumberedMoment). CountsIn x.moment.state [] o.start.moment.state it) begins (subst (λ (q : Position). CountsIn q.state [] q.state it) o.opening counts);
+      counts = subst (λ (q : Position). CountsIn q.state [] q.state it) o.opening counts;
       few = omega (arith, no_round);
     } in
     subst (λ (q : Position). IsListed bytes rules size q rest [] row it) (sym o.opening) at
@@ -160,45 +110,43 @@ listed_told bytes rules size p q rest behind past next row after cost rounds it 
     let spent : q.spent ≡ spent_after p.spent entry.1 = ap (λ (x : NumberedMoment). x.moment.spent) stand in
     let number : q.number ≡ p.number + 1 = ap (λ (x : NumberedMoment). x.count) stand in
     let answers : Answers t p.state p.spent entry.0 entry.1 q.state = subst (λ (s : State). Answers t p.state p.spent entry.0 entry.1 s) (sym state) comes.steps.1 in
-    let end = path_end start.moment l.path in
-    let from : Answers t end.state end.spent entry.0 entry.1 q.state = subst (λ (m : Moment). Answers t m.state m.spent entry.0 entry.1 q.state) (sym l.ends) answers in
-    let run = (passes_run t start (stand_of p) l.reached.log l.reached.follows.transcript.passes).1 in
-    let as_many = ap length l.entries_are ∙ length-map l.path (λ (x : Stage). x.0) in
-    let first = first_epoch l.reached.follows.opening start in
+    let more = count l.present.0 l.present.1 l.counts l.few in
     let turned = rows_by entry.1 q.number q.state cost rounds row in
-    let first_present : Present = (start.moment.state, []) in
-    let here = present_until first_present l.path in
-    let more = count here.0 here.1 l.counts l.few in
-    let turns = until_more (start.count + 1) q.number first l.path step (omega (arith, number, run, as_many)) (epochs_in next) after.epoch
-    (ap epochs_in next_is
-    ∙ map-append (λ (x : CostedEpoch). x.epoch) past turned.0
-    ∙ ap (λ (x : List Epoch). epochs_in past ++ x) (rows_over entry.1 q.number q.state cost rounds row)
-    ∙ ap₂ (λ (x : List Epoch) (e : Epoch). x ++ (epochs_by entry.1 q.number q.state e).0) l.past_is l.row_is)
-    (ap (λ (x : CostedEpoch). x.epoch) after_is ∙ row_next entry.1 q.number q.state cost rounds row ∙ ap (λ (e : Epoch). (epochs_by entry.1 q.number q.state e).1) l.row_is) in
+    let turn : ℕ → List Epoch × Epoch = λ n. epochs_by entry.1 n q.state row.epoch in
+    let over : epochs_in next ≡ epochs_in past ++ (turn q.number).0 =
+    ap epochs_in next_is ∙ map-append (λ (x : CostedEpoch). x.epoch) past turned.0 ∙ ap (λ (x : List Epoch). epochs_in past ++ x) (rows_over entry.1 q.number q.state cost rounds row) in
+    let now : after.epoch ≡ (turn q.number).1 = ap (λ (x : CostedEpoch). x.epoch) after_is ∙ row_next entry.1 q.number q.state cost rounds row in
     let paid = cost_by rules p.state entry.0 in
     let told = ahead (p.number + 1) entry (told_comes rules size (stand_of p) rest entry (stand_of q) behind comes) in
+    let ended = rounds_ended_by entry.1 (rounds_in t l.present.0 l.present.1) in
+    let here : rounds_in_rows next ≡ rounds_in_rows past ++ ended =
+    ap rounds_in_rows next_is ∙ map-append (λ (x : CostedEpoch). x.rounds) past turned.0
+    ∙ ap (λ (x : List ℕ). rounds_in_rows past ++ x) (rounds_over entry.1 q.number q.state cost rounds row ∙ ap (rounds_ended_by entry.1) (present_rounds rules l.present.0 l.present.1 p.state row it l.rounds_now l.by_rules l.counts)) in
+    let on : (xs : List Stage) → l.path ++ step ∷ xs ≡ (l.path ++ step ∷ []) ++ xs = λ xs. sym (append_assoc l.path (step ∷ []) xs) in
     record {
       reached = reached_more bytes rules size p q rest behind l.reached (record { part = EntryPart entry; comes = comes; counted = counted });
       path = l.path ++ step ∷ [];
       entries_are = entries_add l.reached.log (EntryPart entry) ∙ ap (λ (x : List Entry). x ++ entry ∷ []) l.entries_are ∙ sym (entries_more l.path step);
-      is_path = path_more t start.moment l.path step l.is_path from;
-      ends = end_more start.moment l.path step ∙ ap (λ (m : Moment). moment q.state (spent_after m.spent entry.1)) l.ends ∙ ap (moment q.state) (sym spent);
-      past_is = turns.0;
-      row_is = turns.1;
-      costs_are =
-          ap₂ (λ (x : List CostedEpoch) (r : CostedEpoch). costs_in (x ++ r ∷ [])) next_is after_is
-          ∙ rows_cost entry.1 q.number q.state cost rounds paid past row told
-          ∙ ap (λ (x : List (Option ℕ)). x ++ costs_by entry.1 paid) l.costs_are
-          ∙ ap (λ (m : Moment). None ∷ (costs_along (cost_by rules) start.moment.state l.path ++ costs_by entry.1 (cost_by rules m.state entry.0))) (sym l.ends)
-          ∙ ap (λ (x : List (Option ℕ)). None ∷ x) (sym (costs_more (cost_by rules) start.moment l.path step));
-      rounds_are =
-          ap rounds_in_rows next_is
-          ∙ map-append (λ (x : CostedEpoch). x.rounds) past turned.0
-          ∙ ap₂ (λ (x y : List ℕ). x ++ y) l.rounds_are (rounds_over entry.1 q.number q.state cost rounds row ∙ ap (rounds_ended_by entry.1) (l.rounds_now ∙ l.counts.counted.rounds ∙ ap (λ (r : RuleSet). rounds_in (table_of r) here.0 here.1) l.by_rules))
-          ∙ sym (ended_more t first_present l.path step);
+      goes_on = λ xs path. subst (IsPath t start.moment) (on xs) (l.goes_on (step ∷ xs) (answers, subst (λ (n : ℕ). IsPath t (moment q.state n) xs) spent path));
+      epochs = λ xs.
+          ap₂ (λ (x : List Epoch) (e : Epoch). x ++ epochs_from (q.number + 1) e xs) over now
+          ∙ append_assoc (epochs_in past) (turn q.number).0 (epochs_from (q.number + 1) (turn q.number).1 xs)
+          ∙ ap (λ (n : ℕ). epochs_in past ++ ((turn n).0 ++ epochs_from (n + 1) (turn n).1 xs)) number
+          ∙ l.epochs (step ∷ xs)
+          ∙ ap (epochs_from (start.count + 1) (first_epoch l.reached.follows.opening start)) (on xs);
+      costs = λ xs.
+          ap₂ (λ (x : List CostedEpoch) (r : CostedEpoch). costs_in (x ++ r ∷ []) ++ costs_along (cost_by rules) q.state xs) next_is after_is
+          ∙ ap (λ (x : List (Option ℕ)). x ++ costs_along (cost_by rules) q.state xs) (rows_cost entry.1 q.number q.state cost rounds paid past row told)
+          ∙ append_assoc (costs_in (past ++ row ∷ [])) (costs_by entry.1 paid) (costs_along (cost_by rules) q.state xs)
+          ∙ l.costs (step ∷ xs)
+          ∙ ap (λ (x : List Stage). None ∷ costs_along (cost_by rules) start.moment.state x) (on xs);
+      present = (start_after l.present.0 entry.1 q.state, log_after l.present.1 entry.0 entry.1);
+      rounds = λ xs.
+          let rest = rounds_along t (start_after l.present.0 entry.1 q.state) (log_after l.present.1 entry.0 entry.1) xs in
+          ap (λ (x : List ℕ). x ++ rest) here ∙ append_assoc (rounds_in_rows past) ended rest ∙ l.rounds (step ∷ xs) ∙ ap (rounds_along t start.moment.state []) (on xs);
       rounds_now = ap (λ (x : CostedEpoch). x.rounds) after_is ∙ rounds_next entry.1 q.number q.state cost rounds row ∙ rounds_is;
       by_rules = ruled ∙ l.by_rules;
-      counts = subst (λ (x : Present). CountsIn x.0 x.1 q.state is') (sym (present_more first_present l.path step)) more.0;
+      counts = more.0;
       few = more.1;
     }
 
@@ -206,22 +154,24 @@ listed_told bytes rules size p q rest behind past next row after cost rounds it 
 listed_kept : (bytes : List ℕ) (rules : RuleSet) (size : ℕ) (p q : Position) (rest behind : List ℕ) (past next : List CostedEpoch) (row after : CostedEpoch) (rounds : ℕ) (it is' : JudgedRounds) (base : Base) → IsListed bytes rules size p rest past row it → NextPart rules size (stand_of p) rest (BasePart base) (stand_of q) behind → q.counted ≡ counted_part p.counted (BasePart base) → next ≡ past ++ [] → after ≡ record row { rounds = rounds } → rounds ≡ is'.counter.rounds → is'.rules ≡ it.rules → Counted p q (BasePart base) it is' → IsListed bytes rules size q behind next after is'
 listed_kept bytes rules size p q rest behind past next row after rounds it is' base l comes counted next_is after_is rounds_is ruled count =
     let same = next_is ∙ append-nil past in
-    let here = present_until (l.reached.follows.transcript.start.moment.state, []) l.path in
-    let more = count here.0 here.1 l.counts l.few in
+    let stays = comes.steps.1 in
+    let more = count l.present.0 l.present.1 l.counts l.few in
     record {
       reached = reached_more bytes rules size p q rest behind l.reached (record { part = BasePart base; comes = comes; counted = counted });
       path = l.path;
       entries_are = entries_add l.reached.log (BasePart base) ∙ append-nil (entries_in l.reached.log) ∙ l.entries_are;
-      is_path = l.is_path;
-      ends = l.ends ∙ ap (λ (x : NumberedMoment). x.moment) (sym comes.steps.1);
-      past_is = ap epochs_in same ∙ l.past_is;
-      row_is = ap (λ (x : CostedEpoch). x.epoch) after_is ∙ l.row_is;
-      costs_are =
-          ap₂ (λ (x : List CostedEpoch) (r : CostedEpoch). costs_in (x ++ r ∷ [])) same after_is
-          ∙ costs_last past (record row { rounds = rounds })
-          ∙ sym (costs_last past row)
-          ∙ l.costs_are;
-      rounds_are = ap rounds_in_rows same ∙ l.rounds_are;
+      goes_on = λ xs path. l.goes_on xs (subst (λ (x : NumberedMoment). IsPath (table_of rules) x.moment xs) stays path);
+      epochs = λ xs.
+          ap₂ (λ (x : List CostedEpoch) (r : CostedEpoch). epochs_in x ++ epochs_from (q.number + 1) r.epoch xs) same after_is
+          ∙ ap (λ (x : NumberedMoment). epochs_in past ++ epochs_from (x.count + 1) row.epoch xs) stays
+          ∙ l.epochs xs;
+      costs = λ xs.
+          ap (λ (x : List (Option ℕ)). x ++ costs_along (cost_by rules) q.state xs)
+          (ap₂ (λ (x : List CostedEpoch) (r : CostedEpoch). costs_in (x ++ r ∷ [])) same after_is ∙ costs_last past (record row { rounds = rounds }) ∙ sym (costs_last past row))
+          ∙ ap (λ (x : NumberedMoment). costs_in (past ++ row ∷ []) ++ costs_along (cost_by rules) x.moment.state xs) stays
+          ∙ l.costs xs;
+      present = l.present;
+      rounds = λ xs. ap (λ (x : List CostedEpoch). rounds_in_rows x ++ rounds_along (table_of rules) l.present.0 l.present.1 xs) same ∙ l.rounds xs;
       rounds_now = ap (λ (x : CostedEpoch). x.rounds) after_is ∙ rounds_is;
       by_rules = ruled ∙ l.by_rules;
       counts = more.0;
@@ -251,6 +201,7 @@ listed_all bytes rules size p rest past all row it l none is =
     let f = l.reached.follows in
     let good = f.transcript in
     let same : bytes ≡ f.good = f.splits ∙ ap (λ (z : List ℕ). f.good ++ z) none ∙ append-nil f.good in
+    let whole : l.path ++ [] ≡ l.path = append-nil l.path in
     record {
       opening = f.opening;
       path = l.path;
@@ -266,20 +217,18 @@ listed_all bytes rules size p rest past all row it l none is =
           passes = good.passes;
         };
         entries = l.entries_are;
-        is_path = l.is_path;
+        is_path = subst (IsPath (table_of rules) good.start.moment) whole (l.goes_on [] tt);
       };
       epochs =
-          ap epochs_in is
-          ∙ map-append (λ (x : CostedEpoch). x.epoch) past (row ∷ [])
-          ∙ ap₂ (λ (x : List Epoch) (e : Epoch). x ++ e ∷ []) l.past_is l.row_is
-          ∙ until_all (good.start.count + 1) (first_epoch f.opening good.start) l.path;
-      costs = ap costs_in is ∙ l.costs_are;
+          ap epochs_in is ∙ map-append (λ (x : CostedEpoch). x.epoch) past (row ∷ []) ∙ l.epochs []
+          ∙ ap (epochs_from (good.start.count + 1) (first_epoch f.opening good.start)) whole;
+      costs =
+          ap costs_in is ∙ sym (append-nil (costs_in (past ++ row ∷ []))) ∙ l.costs []
+          ∙ ap (λ (x : List Stage). None ∷ costs_along (cost_by rules) good.start.moment.state x) whole;
       rounds =
-          let here = present_until (good.start.moment.state, []) l.path in
-          ap rounds_in_rows is
-          ∙ map-append (λ (x : CostedEpoch). x.rounds) past (row ∷ [])
-          ∙ ap₂ (λ (x : List ℕ) (n : ℕ). x ++ n ∷ []) l.rounds_are (l.rounds_now ∙ l.counts.counted.rounds ∙ ap (λ (r : RuleSet). rounds_in (table_of r) here.0 here.1) l.by_rules)
-          ∙ along_all (table_of rules) (good.start.moment.state, []) l.path;
+          ap rounds_in_rows is ∙ map-append (λ (x : CostedEpoch). x.rounds) past (row ∷ [])
+          ∙ ap (λ (n : ℕ). rounds_in_rows past ++ n ∷ []) (present_rounds rules l.present.0 l.present.1 p.state row it l.rounds_now l.by_rules l.counts)
+          ∙ l.rounds [] ∙ ap (rounds_along (table_of rules) good.start.moment.state []) whole;
     }
 
 -- each epoch is within its bound

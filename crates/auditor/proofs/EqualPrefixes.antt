@@ -1,5 +1,5 @@
 -- Of as many entries of one text there is one run, through one state after another.
-use Rattle.auditor.proofs.Prelude.{◌≡◌, ℕ, ◌+◌, List, [], ◌∷◌, Option, None, Some, drop, map, get_or, refl, sym, ap, ap₂, subst, ◌∙◌, Reply, RuleSet, State, RuleTable, LogPart, NumberedMoment, entries_in, Entry, Moment, Epoch, epochs_from, Answers, spent_after, table_of, IsPath, answers_once, cost_by, CostedEpoch, Opening, size_of, BeginsWithTranscript, EndsAt, IsStateAfter, AreCostedEpochs, costs_along, costs_in, epochs_in, first_epoch, rounds_in_rows, rounds_along}
+use Rattle.auditor.proofs.Prelude.{◌≡◌, ℕ, ◌+◌, List, [], ◌∷◌, Option, None, Some, drop, map, get_or, refl, sym, ap, subst, ◌∙◌, Reply, RuleSet, State, RuleTable, LogPart, NumberedMoment, entries_in, Entry, Moment, Epoch, epochs_from, Answers, spent_after, table_of, IsPath, answers_once, cost_by, CostedEpoch, size_of, BeginsWithTranscript, EndsAt, IsStateAfter, AreCostedEpochs, costs_along, costs_in, epochs_in, first_epoch, rounds_in_rows, rounds_along}
 use Rattle.auditor.proofs.Chains.{Stops, chain_level, nothing_stops}
 use Rattle.auditor.proofs.Openings.{parts_behind}
 use Rattle.auditor.proofs.TextEnds.{Split, Ended, begun, chain_behind, chain_same, ended_once, ends_here, followed, run_once, split_at, transcript_ends, whole}
@@ -42,8 +42,7 @@ abbrev at : State → ℕ → Reply → Moment
 at s spent reply = record { state = s; spent = spent_after spent reply }
 
 at_once : (next following : State) (spent : ℕ) (entry other : Entry) → entry ≡ other → next ≡ following → at next spent entry.1 ≡ at following spent other.1
-at_once next following spent entry other same there =
-    ap (λ (s : State). at s spent entry.1) there ∙ ap (λ (x : Entry). at following spent x.1) same
+at_once next following spent entry other same there = λ i. at (there i) spent (same i).1
 
 abbrev Stage : Type 0
 Stage = Entry × State
@@ -58,7 +57,7 @@ path_once t start ((entry, next) ∷ path) ((other, following) ∷ also) (answer
     let there = behind_once t start entry other next following same answers answered in
     let moment = at_once next following start.spent entry other same there in
     let rest = path_once t (at following start.spent other.1) path also (subst (λ (m : Moment). IsPath t m path) moment is) was behind in
-    ap₂ (λ (x : Entry) (l : List Stage). (x, next) ∷ l) same rest ∙ ap (λ (s : State). (other, s) ∷ also) there
+    λ i. (same i, there i) ∷ rest i
 
 -- rows of the same epochs with the same costs and rounds
 rows_same : (rows others : List CostedEpoch) → epochs_in rows ≡ epochs_in others → costs_in rows ≡ costs_in others → rounds_in_rows rows ≡ rounds_in_rows others → rows ≡ others
@@ -70,9 +69,7 @@ rows_same (row ∷ rows) (other ∷ others) e c r =
     let cost : row.cost ≡ other.cost = ap (λ (l : List (Option ℕ)). get_or l 0 row.cost) c in
     let rounds : row.rounds ≡ other.rounds = ap (λ (l : List ℕ). get_or l 0 row.rounds) r in
     let rest = rows_same rows others (ap (λ (l : List Epoch). drop 1 l) e) (ap (λ (l : List (Option ℕ)). drop 1 l) c) (ap (λ (l : List ℕ). drop 1 l) r) in
-    ap₂ {C = List CostedEpoch} (λ (x : Epoch) (y : Option ℕ). record { epoch = x; cost = y; rounds = row.rounds } ∷ rows) epoch cost
-    ∙ ap (λ (n : ℕ). record { epoch = other.epoch; cost = other.cost; rounds = n } ∷ rows) rounds
-    ∙ ap (λ (l : List CostedEpoch). other ∷ l) rest
+    λ i. record { epoch = epoch i; cost = cost i; rounds = rounds i } ∷ rest i
 
 pub epochs_once : (bytes : List ℕ) (r q : RuleSet) (rows others : List CostedEpoch) → AreCostedEpochs bytes r rows → AreCostedEpochs bytes q others → (r ≡ q) × (rows ≡ others)
 epochs_once bytes r q rows others x y =
@@ -88,19 +85,7 @@ epochs_once bytes r q rows others x y =
     let is_path = subst (λ (z : NumberedMoment). IsPath (table_of r) z.moment y.path) (sym starts) table in
     let entries = sym a.entries ∙ ap (λ (l : List LogPart). entries_in l) once.parts ∙ b.entries in
     let same = path_once (table_of r) start.moment x.path y.path a.is_path is_path entries in
-    let epochs =
-    x.epochs
-    ∙ ap₂ (λ (o : Opening) (z : NumberedMoment). epochs_from (z.count + 1) (first_epoch o z) x.path) once.openings starts
-    ∙ ap (λ (p : List Stage). epochs_from (begin.count + 1) (first_epoch y.opening begin) p) same
-    ∙ sym y.epochs in
-    let costs =
-    x.costs
-    ∙ ap₂ (λ (z : RuleSet) (m : NumberedMoment). None ∷ costs_along (cost_by z) m.moment.state x.path) once.rules starts
-    ∙ ap (λ (p : List Stage). None ∷ costs_along (cost_by q) begin.moment.state p) same
-    ∙ sym y.costs in
-    let rounds =
-    x.rounds
-    ∙ ap₂ (λ (z : RuleSet) (m : NumberedMoment). rounds_along (table_of z) m.moment.state [] x.path) once.rules starts
-    ∙ ap (λ (p : List Stage). rounds_along (table_of q) begin.moment.state [] p) same
-    ∙ sym y.rounds in
+    let epochs = x.epochs ∙ (λ i. epochs_from ((starts i).count + 1) (first_epoch (once.openings i) (starts i)) (same i)) ∙ sym y.epochs in
+    let costs = x.costs ∙ (λ i. None ∷ costs_along (cost_by (once.rules i)) (starts i).moment.state (same i)) ∙ sym y.costs in
+    let rounds = x.rounds ∙ (λ i. rounds_along (table_of (once.rules i)) (starts i).moment.state [] (same i)) ∙ sym y.rounds in
     (once.rules, rows_same rows others epochs costs rounds)

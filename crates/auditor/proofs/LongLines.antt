@@ -1,5 +1,5 @@
 -- Lines that are longer than any line of a transcript: what they break, whatever follows them.
-use Rattle.auditor.proofs.Prelude.{◌≡◌, ℕ, ◌+◌, ◌*◌, ◌<◌, ◌≤◌, Bool, true, false, cond, List, [], ◌∷◌, ◌++◌, Option, None, Some, length, take, drop, refl, sym, ap, ◌∙◌, append_assoc, arith, codes, nat_lt, AllByRecursion, length-append, take-append-drop, take-append-le, take_all, RuleSet, Hh, Manne, rules_word, number_text, base_head, header_text, sizes_text, lines_with_ends, BaseLine, Head, IsBaseLine, base_line_text, BreaksAt, MayFollow, AreCounts, BaseNumbers, Header, SpellsHeader, entry_short, first_line, first_line-is, no_first_line, IsFree, TranscriptCursor, IsMetAt, IsMetFirst, BeginsBase, HasBadHeader, HasNoEntry, line_feeds, BadHeader, BadBase, NotALine}
+use Rattle.auditor.proofs.Prelude.{◌≡◌, ℕ, ◌+◌, ◌*◌, ◌<◌, ◌≤◌, Bool, true, false, cond, List, [], ◌∷◌, ◌++◌, Option, None, Some, length, take, drop, refl, sym, ap, ◌∙◌, arith, codes, nat_lt, AllByRecursion, length-append, take-append-drop, take-append-le, take_all, RuleSet, Hh, Manne, rules_word, number_text, base_head, header_text, sizes_text, lines_with_ends, BaseLine, Head, IsBaseLine, base_line_text, BreaksAt, AreCounts, BaseNumbers, Header, SpellsHeader, entry_short, first_line, first_line-is, no_first_line, IsFree, TranscriptCursor, IsMetAt, IsMetFirst, BeginsBase, HasBadHeader, HasNoEntry, line_feeds, BadHeader, BadBase, NotALine}
 use Rattle.std.proofs.lemmas.Fmt.{length-decimal-le}
 use Rattle.entry_grammar.specs.declared.base_line.BaseLine.TheVariants.{Base, Place, Link}
 use Rattle.line_text.proofs.EventLengths.{name_short, target_short, bool_short, pair_short}
@@ -9,7 +9,7 @@ use Rattle.line_text.specs.Words.{joined_texts}
 use Rattle.line_text.specs.BaseText.{base_fields}
 use Rattle.auditor.proofs.AuditPositions.{damaged_line}
 use Rattle.auditor.proofs.ReadOpenings.{broken}
-use Rattle.auditor.proofs.Windows.{feeds_behind, feeds_broken, first_line-more, front_in_line}
+use Rattle.auditor.proofs.Windows.{breaks_with, feeds_behind, feeds_broken, first_line-more, front_in_line}
 
 -- ---- how long the lines are
 
@@ -150,21 +150,10 @@ entry_too_long replay rest line other none long is bytes more at =
 -- ---- a base's line that is too long
 
 long_breaks : (bytes more : List ℕ) (k : ℕ) (b : BreaksAt bytes k) → IsFree 10 b.rest → 120 < length b.rest → BreaksAt (bytes ++ more) k
-long_breaks bytes more k b free long = record {
-  lines = b.lines;
-  rest = b.rest ++ more;
-  is = ap (λ (l : List ℕ). l ++ more) b.is ∙ append_assoc (lines_with_ends base_line_text b.lines) b.rest more;
-  fit = b.fit;
-  follow = b.follow;
-  short = b.short;
-  number = b.number;
-  stops = stops;
-}
-  where
-    stops : (found : BaseLine) (m : List ℕ) → IsBaseLine found → MayFollow (b.lines ++ found ∷ []) → b.rest ++ more ≡ base_line_text found ++ 10 ∷ m → ⊥
-    stops found m fits follows e =
-        let inside = front_in_line b.rest (base_line_text found) m more free e in
-        omega (arith, long, ap length inside.1, length-append b.rest inside.0, base_line_short found fits)
+long_breaks bytes more k b free long =
+    breaks_with bytes more k b (λ found m fits follows e.
+    let inside = front_in_line b.rest (base_line_text found) m more free e in
+    omega (arith, long, ap length inside.1, length-append b.rest inside.0, base_line_short found fits))
 
 no_feed_free : (found : Option (List ℕ × List ℕ)) (bytes : List ℕ) → first_line bytes ≡ found → line_feeds bytes ≡ 0 → IsFree 10 bytes
 no_feed_free None bytes cut none = no_first_line bytes cut

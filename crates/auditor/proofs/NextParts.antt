@@ -108,10 +108,7 @@ wants_made old new rest begins w c = by w.before_it
 -- it is still the text of the replay's base
 pub wanted_still : (old new : TranscriptCursor) → AwaitsBase old new → new.wanted.items ≡ base_wanted new
 wanted_still old new w =
-    w.text
-    ∙ ap (λ (r : RuleSet). base_text r old.size (base_of old.audit.number (stand_of old.audit).moment)) (sym w.rules)
-    ∙ ap (λ (n : ℕ). base_text new.rules n (base_of old.audit.number (stand_of old.audit).moment)) (sym w.size)
-    ∙ ap (λ (p : Position). base_text new.rules new.size (base_of p.number (stand_of p).moment)) (sym w.audit)
+    w.text ∙ sym (λ i. base_text (w.rules i) (w.size i) (base_of (w.audit i).number (stand_of (w.audit i)).moment))
 
 -- all of the text came
 pub base_passed : (old new : TranscriptCursor) (wanted rest : List ℕ) (same : ℕ) → old.audit.number ≤ 16777216 → new.rules ≡ old.rules → new.size ≡ old.size → new.audit ≡ old.audit → new.lines ≡ old.lines + line_feeds wanted → new.wanted.items ≡ [] → new.same ≡ 0

@@ -19,10 +19,8 @@ chain_behind bytes rules log end rest f =
 -- a chain of the one is a chain of the other
 pub chain_same : (r q : RuleSet) (o u : Opening) (start begin : NumberedMoment) (x y : List ℕ) (also : List LogPart) (last : NumberedMoment) (left : List ℕ) → SameOpening r q o u start begin x y → Chain q (size_of u) begin also last y left → Chain r (size_of o) start also last x left
 chain_same r q o u start begin x y also last left same chain =
-    subst (λ (z : RuleSet). Chain z (size_of o) start also last x left) (sym same.rules)
-    (subst (λ (z : Opening). Chain q (size_of z) start also last x left) (sym same.openings)
-    (subst (λ (z : NumberedMoment). Chain q (size_of u) z also last x left) (sym same.starts)
-    (subst (λ (z : List ℕ). Chain q (size_of u) begin also last z left) (sym same.rests) chain)))
+    subst (λ (z : RuleSet × Opening × NumberedMoment × List ℕ). Chain z.0 (size_of z.1) z.2 also last z.3 left)
+    (sym (λ i. (same.rules i, same.openings i, same.starts i, same.rests i))) chain
 
 pub stops_same : (r q : RuleSet) (o u : Opening) (last : NumberedMoment) (left : List ℕ) → r ≡ q → o ≡ u → Stops q (size_of u) last left → Stops r (size_of o) last left
 stops_same r q o u last left rules openings stops =
@@ -321,16 +319,16 @@ run_once bytes r q o p log also end last x y =
       ends = ap (λ (z : Split). z.end) once;
     }
 
-abbrev summary : ℕ → ℕ → ℕ → Summary
-summary entries epochs moves = record { entries = entries; epochs = epochs; moves = moves }
-
--- the counts are those of the log
-abbrev summary_of : List Entry → Summary
+-- the counts of a log
+abbrev pub summary_of : List Entry → Summary
 summary_of log = record { entries = length log; epochs = epoch_count log; moves = move_count log }
 
+pub counted_transcript : (bytes : List ℕ) (rules : RuleSet) (opening : Opening) (log : List LogPart) (end : NumberedMoment) → IsTranscript bytes rules opening log end → IsAccepted bytes (summary_of (entries_in log))
+counted_transcript bytes rules opening log end is =
+    record { rules = rules; opening = opening; log = log; end = end; transcript = is; counts = record { entries = refl; epochs = refl; moves = refl } }
+
 counted_is : (c : Summary) (log : List Entry) → Counts c log → c ≡ summary_of log
-counted_is c log is =
-    ap (λ (n : ℕ). summary n c.epochs c.moves) is.entries ∙ ap (λ (n : ℕ). summary (length log) n c.moves) is.epochs ∙ ap (λ (n : ℕ). summary (length log) (epoch_count log) n) is.moves
+counted_is c log is = λ i. record { entries = is.entries i; epochs = is.epochs i; moves = is.moves i }
 
 pub no_damage : (bytes : List ℕ) (rules : RuleSet) (opening : Opening) (log : List LogPart) (end : NumberedMoment) (d : AuditFault) → IsTranscript bytes rules opening log end → IsDamage bytes d → ⊥
 no_damage bytes rules opening log end d is x = by (damage_fails bytes d x)

@@ -38,9 +38,7 @@ somewhere_few replay rest somewhere = ∥∥₁_elim somewhere (search props) fe
 pub at_same : (bytes : List ℕ) (old new : TranscriptCursor) (rest : List ℕ) → new.rules ≡ old.rules → new.size ≡ old.size → new.audit ≡ old.audit → new.lines ≡ old.lines → IsCursorAt bytes old rest → IsCursorAt bytes new rest
 at_same bytes old new rest rules size audit lines at = record {
   reached =
-      subst (λ (r : RuleSet). IsPositionAfter bytes r new.size new.audit rest) (sym rules)
-      (subst (λ (n : ℕ). IsPositionAfter bytes old.rules n new.audit rest) (sym size)
-      (subst (λ (p : Position). IsPositionAfter bytes old.rules old.size p rest) (sym audit) at.reached));
+      subst (λ (x : RuleSet × ℕ × Position). IsPositionAfter bytes x.0 x.1 x.2 rest) (sym (λ i. (rules i, size i, audit i))) at.reached;
   counted = λ good e. lines ∙ at.counted good e;
 }
 

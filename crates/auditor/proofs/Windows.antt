@@ -93,8 +93,9 @@ feeds_broken bytes k b =
     let own = feeds_ended b.lines b.fit in
     omega (arith, both, own, b.number)
 
-broken_more : (bytes more line behind : List ℕ) (k : ℕ) (b : BreaksAt bytes k) → first_line b.rest ≡ Some (line, behind) → BreaksAt (bytes ++ more) k
-broken_more bytes more line behind k b cut = record {
+-- they do so in a longer text too if no line of a base goes on with what follows
+pub breaks_with : (bytes more : List ℕ) (k : ℕ) (b : BreaksAt bytes k) → ((found : BaseLine) (m : List ℕ) → IsBaseLine found → MayFollow (b.lines ++ found ∷ []) → b.rest ++ more ≡ base_line_text found ++ 10 ∷ m → ⊥) → BreaksAt (bytes ++ more) k
+breaks_with bytes more k b stops = record {
   lines = b.lines;
   rest = b.rest ++ more;
   is = ap (λ (l : List ℕ). l ++ more) b.is ∙ append_assoc (lines_with_ends base_line_text b.lines) b.rest more;
@@ -104,12 +105,13 @@ broken_more bytes more line behind k b cut = record {
   number = b.number;
   stops = stops;
 }
-  where
-    stops : (found : BaseLine) (m : List ℕ) → IsBaseLine found → MayFollow (b.lines ++ found ∷ []) → b.rest ++ more ≡ base_line_text found ++ 10 ∷ m → ⊥
-    stops found m fits follows e =
-        let text = base_line_text found in
-        let same : (line, behind ++ more) ≡ (text, m) = same_Some (line, behind ++ more) (text, m) (sym (first_line-more b.rest more line behind cut) ∙ ap first_line e ∙ first_line-ended text m (line_free found fits)) in
-        b.stops found behind fits follows (first_line-splits b.rest line behind cut ∙ ap (λ (p : List ℕ × List ℕ). p.0 ++ 10 ∷ behind) same)
+
+broken_more : (bytes more line behind : List ℕ) (k : ℕ) (b : BreaksAt bytes k) → first_line b.rest ≡ Some (line, behind) → BreaksAt (bytes ++ more) k
+broken_more bytes more line behind k b cut =
+    breaks_with bytes more k b (λ found m fits follows e.
+    let text = base_line_text found in
+    let same : (line, behind ++ more) ≡ (text, m) = same_Some (line, behind ++ more) (text, m) (sym (first_line-more b.rest more line behind cut) ∙ ap first_line e ∙ first_line-ended text m (line_free found fits)) in
+    b.stops found behind fits follows (first_line-splits b.rest line behind cut ∙ ap (λ (p : List ℕ × List ℕ). p.0 ++ 10 ∷ behind) same))
 
 -- if the line is whole, they do so in a longer text too
 pub breaks_more : (bytes more : List ℕ) (k : ℕ) → BreaksAt bytes k → k ≤ line_feeds bytes → BreaksAt (bytes ++ more) k

@@ -69,7 +69,8 @@ impl Audit {
     }
 
     pub(crate) fn spent(&self) -> u64
-        ensures { result ≡ self.now.spent }
+        ensures spent { result ≡ self.now.spent }
+        ensures few { result ≤ self.now.counted.moves + 4294967295 }
     {
         self.spent
     }

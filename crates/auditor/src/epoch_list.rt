@@ -2,9 +2,9 @@
 
 ghost use Rattle.std.specs.Prelude.{◌≡◌, ◌≤◌, ◌+◌, ◌++◌, ◌∷◌, [], All, Err, IfErr, IfOk, OnOk};
 ghost use Rattle.rule_machine.specs.Base.{LogPart};
-ghost use Rattle.rule_machine.specs.Run.{epoch_at, open_at};
+ghost use Rattle.rule_machine.specs.Run.{open_at};
 ghost use Rattle.auditor.specs.Epochs.{AreCostedEpochs, ArePaid, HasFewRounds, IsWithinItsBound, epochs_in, rows_at};
-ghost use Rattle.auditor.specs.Position.{counted_part, stand_of};
+ghost use Rattle.auditor.specs.Position.{counted_part};
 ghost use Rattle.auditor.specs.Verdict.{IsJudged};
 
 use crate::check::Audit;
@@ -23,21 +23,12 @@ pub struct Epochs {
 }
 
 impl Audit {
-    fn new_epoch(&self) -> Epoch
-        ensures { result ≡ epoch_at self.now.number self.now.state }
-    {
-        let start = EpochStart::At(self.number());
-        let net = self.judge.net();
-        Epoch::new(start, 0, net.edges(), net.nodes())
-    }
-
-    /// The epoch that began at `start` and contains the state reached.
-    fn open_epoch(&self, start: EpochStart) -> Epoch
-        ensures epoch { result ≡ open_at start (stand_of self.now).moment }
-        ensures few { result.moves ≤ self.now.counted.moves + 4294967295 }
+    /// An epoch that contains the state reached.
+    fn present_epoch(&self, start: EpochStart, moves: u64) -> Epoch
+        ensures { result ≡ open_at start (record { state = self.now.state; spent = moves }) }
     {
         let net = self.judge.net();
-        Epoch::new(start, self.spent(), net.edges(), net.nodes())
+        Epoch::new(start, moves, net.edges(), net.nodes())
     }
 }
 
@@ -69,9 +60,8 @@ fn turn(
     let counted = audit.counted();
     if counted.epochs > before.epochs {
         push(past, row)?;
-        let epoch = audit.new_epoch();
         return Ok(CostedEpoch {
-            epoch,
+            epoch: audit.present_epoch(EpochStart::At(audit.number()), 0),
             cost,
             rounds,
         });
@@ -92,9 +82,10 @@ fn turn(
 ///
 /// The errors are those of `audit_bytes`: the first damage of other bytes, or `Memory`. Costs what
 /// `audit_bytes` costs, and parses the lines of steps and accepted disturbances twice. After such an entry it
-/// looks at the nodes that the entry changed, and at their neighbours. A neighbour that points nowhere costs
-/// looks at its own neighbours: at the one found last that points at it or that it may court, and, if that one
-/// no longer does, on to the next. Takes 32 bytes an epoch.
+/// looks again at the nodes that the entry changed; after a move or a fault also at the neighbours that depend
+/// on them by their `Witness`, after an `Unlink` or a `Leave` at all neighbours. A node that points nowhere costs
+/// a look at the neighbour found last that points at it or that it may court, and, if that one no longer does,
+/// looks on to the next. Takes 32 bytes an epoch.
 pub fn epochs_of(alloc: Global, bytes: &[u8]) -> Result<Epochs, AuditFault>
     ensures epochs { IfOk result (λ epochs. AreCostedEpochs bytes.now epochs.rules epochs.list.items) }
     ensures bounded { IfOk result (λ epochs. All (IsWithinItsBound epochs.rules) (epochs_in epochs.list.items)) }
@@ -109,7 +100,9 @@ pub fn epochs_of(alloc: Global, bytes: &[u8]) -> Result<Epochs, AuditFault>
     };
     let mut rounds = replay.audit.begin_rounds(alloc, replay.rules)?;
     let mut list = Vec::new(alloc);
-    let epoch = replay.audit.open_epoch(replay.begun);
+    let epoch = replay
+        .audit
+        .present_epoch(replay.begun, replay.audit.spent());
     let mut row = CostedEpoch {
         epoch,
         cost: None,

@@ -75,27 +75,8 @@ impl TranscriptCursor {
     }
 }
 
-// Judges the complete parts at the start of `held`, and drops their bytes.
-fn judge_parts(
-    alloc: Global,
-    run: &mut TranscriptCursor,
-    held: &mut Vec<u8>,
-) -> Result<(), AuditFault>
-    requires at { IsReachable run.old held.old.items }
-    requires compared { IsCompared run.old held.old.items }
-    ensures at { OnOk result ((read : List ℕ) → IsCursorAt read run.old held.old.items → IsCursorAt read run.new held.new.items) }
-    ensures compared { OnOk result (IsCompared run.new held.new.items) }
-    ensures fault { IfErr result (λ fault. (read more : List ℕ) → IsCursorAt read run.old held.old.items → IsJudged (read ++ more) (Err fault)) }
-{
-    let left = match run.pass_parts(alloc, held) {
-        Ok(rest) => rest.len(),
-        Err(fault) => return Err(fault),
-    };
-    let judged = held.len() - left;
-    drop_front(held, judged);
-    Ok(())
-}
-
+// Judges the complete parts of `held` and the bytes after it, and keeps the rest.
+//
 // If `held` was empty, no judged byte is copied.
 fn judge_behind(
     alloc: Global,
@@ -109,17 +90,22 @@ fn judge_behind(
     ensures compared { OnOk result (IsCompared run.new held.new.items) }
     ensures fault { IfErr result (λ fault. (read more : List ℕ) → IsCursorAt read run.old (held.old.items ++ bytes.now) → IsJudged (read ++ more) (Err fault)) }
 {
-    if !held.is_empty() {
-        held.extend_from_slice(bytes)?;
-        return judge_parts(alloc, run, held);
+    if held.is_empty() {
+        let rest = match run.pass_parts(alloc, bytes) {
+            Ok(rest) => rest,
+            Err(fault) => return Err(fault),
+        };
+        held.extend_from_slice(rest)?;
+        return Ok(());
     }
-    match run.pass_parts(alloc, bytes) {
-        Ok(rest) => {
-            held.extend_from_slice(rest)?;
-            Ok(())
-        }
-        Err(fault) => Err(fault),
-    }
+    held.extend_from_slice(bytes)?;
+    let left = match run.pass_parts(alloc, held) {
+        Ok(rest) => rest.len(),
+        Err(fault) => return Err(fault),
+    };
+    let judged = held.len() - left;
+    drop_front(held, judged);
+    Ok(())
 }
 
 // Like `judge_behind`, but copies less: if bytes are held, the piece's first line is judged first, since it

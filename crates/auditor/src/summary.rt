@@ -2,7 +2,7 @@
 
 ghost use Rattle.std.specs.Prelude.{◌≡◌, ◌<◌, ◌≤◌};
 ghost use Rattle.rule_machine.specs.Answer as answer;
-ghost use Rattle.auditor.specs.Transcript.{disturbances_in, reply_moves};
+ghost use Rattle.auditor.specs.Transcript.{reply_moves};
 ghost use Rattle.auditor.specs.Position.{counted_more, IsPossibleSummary};
 
 use rule_machine::Reply;
@@ -28,29 +28,20 @@ impl Summary {
         ensures value { result ≡ counted_more self reply.now }
         ensures counted { IsPossibleSummary result }
     {
-        Summary {
-            entries: self.entries + 1,
-            epochs: self.epochs + disturbances_in(reply),
-            moves: self.moves + moves_in(reply) as u64,
+        let entries = self.entries + 1;
+        match reply {
+            Reply::Accepted => Summary {
+                entries,
+                epochs: self.epochs + 1,
+                ..self
+            },
+            Reply::Moves(moves) => Summary {
+                entries,
+                moves: self.moves + moves.as_slice().len() as u64,
+                ..self
+            },
+            _ => Summary { entries, ..self },
         }
-    }
-}
-
-fn disturbances_in(reply: &Reply) -> u32
-    ensures { result ≡ disturbances_in reply.now }
-{
-    match reply {
-        Reply::Accepted => 1,
-        _ => 0,
-    }
-}
-
-fn moves_in(reply: &Reply) -> usize
-    ensures { result ≡ reply_moves reply.now }
-{
-    match reply {
-        Reply::Moves(moves) => moves.as_slice().len(),
-        _ => 0,
     }
 }
 

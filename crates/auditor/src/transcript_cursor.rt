@@ -1,8 +1,6 @@
 //! Going through a transcript part by part.
 
 ghost use Rattle.std.specs.Prelude.{◌≡◌, ◌≢◌, ◌≤◌, ◌+◌, ◌*◌, ◌++◌, ℕ, List, [], false, length, None, Some, IfErr, IfOk, MatchOption, OnOk};
-ghost use Rattle.rule_machine.specs.declared.rule_set.RuleSet.{RuleSet as Rules};
-ghost use Rattle.entry_grammar.specs.declared.base_line.BaseLine.TheVariants.{Head};
 ghost use Rattle.line_text.specs.BaseText.{base_head};
 ghost use Rattle.byte_streams.specs.Lines.{first_line};
 ghost use Rattle.entry_grammar.specs.Spelling.{SpellsHeader};
@@ -10,9 +8,9 @@ ghost use Rattle.auditor.specs.Damage.{BeginsBase, SpellsNoHead};
 ghost use Rattle.auditor.specs.EntryWindows.{IsMetBehind, IsMetFirst};
 ghost use Rattle.auditor.specs.TranscriptCursors.{IsCursorAfter, HasCutStart, IsCursorAt, IsCompared, IsMetAt, IsPassed, IsReachable, IsUnended, StaysInPlace, AwaitsBase};
 
+use crate::AuditFault;
 use crate::check::Audit;
 use crate::lines::{MAX_LINE, common_len, line_feeds, lines_before};
-use crate::{AuditFault, Summary};
 use byte_streams::split_line;
 use entry_grammar::{BaseFault, BaseLine, Header, read_base, read_base_line, read_header};
 use line_text::{after, put_base};
@@ -36,25 +34,18 @@ pub(crate) struct TranscriptCursor {
     pub(crate) same: usize,
 }
 
-fn head_of(line: BaseLine) -> Option<(RuleSet, u32)>
-    ensures { MatchOption result ((rules : Rules) (size : ℕ) → line ≡ Head rules size → ⊥) (λ head. line ≡ Head head.0 head.1) }
-{
-    match line {
-        BaseLine::Head(rules, size) => Some((rules, size)),
-        _ => None,
-    }
-}
-
 fn read_head(line: &[u8]) -> Option<(RuleSet, u32)>
     ensures { MatchOption result (SpellsNoHead line.now) (λ head. (head.1 ≤ 65535) × (line.now ≡ base_head head.0 head.1)) }
 {
     let Ok(found) = read_base_line(line) else {
         return None;
     };
-    head_of(found)
+    match found {
+        BaseLine::Head(rules, size) => Some((rules, size)),
+        _ => None,
+    }
 }
 
-// The damage of a text that ends before its opening does.
 fn cut_start(text: &[u8]) -> AuditFault
     requires { HasCutStart text.now }
     ensures { IsMetFirst text.now result }
@@ -126,11 +117,8 @@ impl TranscriptCursor {
         let (base, behind) = match read_base(alloc, rest) {
             Ok(found) => found,
             Err(BaseFault::BadLine(number)) => {
-                if line_feeds(rest) < number {
-                    if is_short(rest, number) {
-                        return Ok(None);
-                    }
-                    return Err(AuditFault::BadBase { line: number + 1 });
+                if line_feeds(rest) < number && is_short(rest, number) {
+                    return Ok(None);
                 }
                 return Err(AuditFault::BadBase { line: number + 1 });
             }
@@ -180,7 +168,6 @@ impl TranscriptCursor {
         }
     }
 
-    /// Reads the opening of a text that is complete.
     pub(crate) fn open_whole(
         alloc: Global,
         text: &[u8],

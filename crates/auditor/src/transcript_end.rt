@@ -24,7 +24,6 @@ pub struct TranscriptEnd {
     pub net: NetState,
 }
 
-/// The counts of a transcript, or the fault.
 pub(crate) fn summary_of(found: Result<TranscriptEnd, AuditFault>) -> Result<Summary, AuditFault>
     ensures { result ≡ summary_in found }
 {
@@ -35,7 +34,6 @@ pub(crate) fn summary_of(found: Result<TranscriptEnd, AuditFault>) -> Result<Sum
 }
 
 impl TranscriptCursor {
-    /// Where the run ends, if all of the text was judged.
     pub(crate) fn into_end(self) -> TranscriptEnd
         requires { IsReachable self [] }
         ensures ended { (bytes : List ℕ) → IsCursorAt bytes self [] → IsTranscriptEnd bytes result }

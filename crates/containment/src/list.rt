@@ -12,7 +12,6 @@ use net_state::NetState;
 use rule_machine::{Event, Node, Want};
 use std::alloc::Global;
 
-/// The lesser of the first nodes of two lists.
 fn least_head(xs: &[Node], ys: &[Node]) -> Option<Node>
     ensures { result ≡ among.least_head xs.now ys.now }
 {
@@ -33,6 +32,7 @@ fn without_head(nodes: &[Node], v: Node) -> &[Node]
     }
 }
 
+#[tactic(auto, using(crate::proofs::AbsentNames::absent_near))]
 fn near(net: &NetState, v: Node) -> &[Node]
     ensures { result.now ≡ neighbours net.now.state.network v }
 {

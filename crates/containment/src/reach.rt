@@ -50,6 +50,7 @@ pub(crate) fn is_hit(net: &NetState, event: &Event, v: Node) -> bool
     }
 }
 
+#[tactic(auto, using(crate::proofs::AbsentNames::absent_alone))]
 fn is_beside_parted(net: &NetState, event: &Event, v: Node) -> bool
     ensures { result ≡ is_some (find (of.is_parted net.now.state event.now) (neighbours net.now.state.network v)) }
 {

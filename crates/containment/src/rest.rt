@@ -8,7 +8,6 @@ ghost use Rattle.containment_laws.specs.Rest as of;
 use net_state::NetState;
 use rule_machine::Node;
 
-/// Whether each neighbour of a node is married.
 fn is_surrounded(net: &NetState, v: Node) -> bool
     requires { IsTrue (network.present net.now.state.network v) }
     ensures { result ≡ of.is_surrounded net.now.state v }
@@ -21,6 +20,7 @@ fn is_surrounded(net: &NetState, v: Node) -> bool
     true
 }
 
+#[tactic(auto, using(crate::proofs::AbsentNames::absent_unmarried))]
 pub(crate) fn is_married(net: &NetState, v: Node) -> bool
     ensures { result ≡ state.married net.now.state v }
 {
@@ -38,6 +38,7 @@ pub(crate) fn is_married(net: &NetState, v: Node) -> bool
 /// each of its neighbours is married.
 ///
 /// Cost: a pass over the neighbours if the node's pointer is null, else a few looks.
+#[tactic(auto, using(crate::proofs::AbsentNames::absent_at_rest))]
 pub fn is_at_rest(net: &NetState, uses_flags: bool, v: Node) -> bool
     ensures { result ≡ of.is_at_rest uses_flags net.now.state v }
 {

@@ -32,7 +32,6 @@ fn mark_row(due: &mut Marks, size: u32, row: &[Node])
     }
 }
 
-/// Marks a name and its neighbours.
 fn mark_near(due: &mut Marks, size: u32, net: &NetState, v: Node)
     requires { length due.old ≡ size + 1 }
     ensures { MarksAll size (is_near net.now.state v) due.old due.new }
@@ -44,7 +43,6 @@ fn mark_near(due: &mut Marks, size: u32, net: &NetState, v: Node)
     }
 }
 
-/// Marks `w` if it depends on its neighbour `v`.
 #[tactic(auto, using(crate::proofs::Sets::witness_is))]
 fn mark_dependant(due: &mut Marks, size: u32, witnesses: &[Witness], v: Node, w: Node)
     requires places { length due.old ≡ size + 1 }
@@ -56,7 +54,6 @@ fn mark_dependant(due: &mut Marks, size: u32, witnesses: &[Witness], v: Node, w:
     }
 }
 
-/// Marks the neighbours of `v` that depend on it.
 fn mark_dependants(due: &mut Marks, size: u32, witnesses: &[Witness], net: &NetState, v: Node)
     requires places { length due.old ≡ size + 1 }
     requires witness_places { length witnesses.now ≡ size + 1 }
@@ -68,7 +65,6 @@ fn mark_dependants(due: &mut Marks, size: u32, witnesses: &[Witness], net: &NetS
     }
 }
 
-/// Marks a name and the neighbours that depend on it.
 fn mark_touched(due: &mut Marks, size: u32, witnesses: &[Witness], net: &NetState, v: Node)
     requires places { length due.old ≡ size + 1 }
     requires witness_places { length witnesses.now ≡ size + 1 }

@@ -11,7 +11,6 @@ use enabled_set::{EnabledSet, Marks, Removals};
 use reply_checker::{Judge, Witness, is_enabled};
 use rule_machine::{Node, RuleSet};
 
-/// Whether `v` is a node with an enabled rule; stores its witness.
 fn is_on(judge: &Judge, rules: RuleSet, v: Node, witness: &mut Witness) -> bool
     ensures value { result ≡ is_on (table_of rules) judge.now v }
     ensures rests { RestsOn (table_of rules) judge.now v witness.new.node }

@@ -1,5 +1,5 @@
 -- What a node looks up is what a state that shows it has there.
-use Rattle.local_rule.proofs.Prelude.{◌≡◌, ℕ, Bool, true, false, ◌&&◌, List, [], ◌∷◌, map, find, reverse, nat_lt, Option, None, Some, is_some, refl, sym, ap, ◌∙◌, inl, inr, ⊎_elim, arith, cases_Bool, cond-true, cond-false, eq-eqb, ne_eqb, option_map, NodeRecord, node_record_at, linked, neighbours, State, pointer, flag, suits, points, first_suitor, has_suitor, married, is_at, holds_at, is_open, first_open, last_open_above, IsNear, pointer_linked, linked_apart, ShowsAtNode, record_of, record_in, target_found, flag_in}
+use Rattle.local_rule.proofs.Prelude.{◌≡◌, ℕ, Bool, true, false, ◌&&◌, List, [], ◌∷◌, map, find, reverse, nat_lt, Option, None, Some, is_some, refl, sym, ap, ◌∙◌, inl, inr, ⊎_elim, arith, cases_Bool, cond-true, cond-false, eq-eqb, ne_eqb, option_map, NodeRecord, node_record_at, linked, neighbours, State, pointer, flag, suits, points, first_suitor, married, is_at, holds_at, is_open, first_open, last_open_above, IsNear, pointer_linked, linked_apart, ShowsAtNode, record_of, record_in, target_found, flag_in}
 use Rattle.std.proofs.Common.{◌++◌}
 use Rattle.std.proofs.lemmas.List.{map-append, reverse-append}
 use Rattle.machine_laws.proofs.TwoPasses.{married_answered}
@@ -48,13 +48,6 @@ map_reversed f (x ∷ xs) =
 
 pub shown_suitor : (s : State) (own : NodeRecord) (around : List NodeRecord) → ShowsAtNode s own around → name_found (suitor_in around own.node) ≡ first_suitor s own.node
 shown_suitor s own around shows = shown_find s own around (λ r. is_at r.target own.node) shows
-
-some_name : (o : Option NodeRecord) → is_some (name_found o) ≡ is_some o
-some_name None = refl
-some_name (Some r) = refl
-
-pub shown_has_suitor : (s : State) (own : NodeRecord) (around : List NodeRecord) → ShowsAtNode s own around → is_some (suitor_in around own.node) ≡ has_suitor s own.node
-shown_has_suitor s own around shows = sym (some_name _) ∙ ap is_some (shown_suitor s own around shows)
 
 pub shown_open : (opens : Option ℕ → Bool → Bool) (s : State) (own : NodeRecord) (around : List NodeRecord) → ShowsAtNode s own around → name_found (first_open_in opens around) ≡ first_open opens s own.node
 shown_open opens s own around shows = shown_find s own around (λ r. opens r.target r.flagged) shows

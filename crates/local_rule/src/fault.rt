@@ -26,7 +26,6 @@ pub enum ViewFault {
     PointsAtStranger(Node),
 }
 
-/// The record of this name.
 pub(crate) fn record_of<T: AsRecord>(around: &[T], w: Node) -> Option<NodeRecord>
     ensures { result ≡ record_of (map T.shows around.now) w }
 {

@@ -5,7 +5,6 @@ ghost use Rattle.rule_machine.specs.State.{State};
 ghost use Rattle.std.specs.Result.{result_ok};
 ghost use Rattle.rule_machine.specs.RuleTable.{rule_at, least_target};
 ghost use Rattle.rule_machine.specs.Target.{target_at};
-ghost use Rattle.rule_machine.specs.Step as step;
 ghost use Rattle.rule_machine.specs.Tables.{table_of};
 ghost use Rattle.local_rule.specs.Faults.{first_fault};
 ghost use Rattle.local_rule.specs.Moves.{move_at, may_move_at, move_from};
@@ -19,15 +18,6 @@ use crate::{AsRecord, LocalMove};
 use rule_machine::{Act, BadTarget, Node, NodeRecord, RuleSet};
 use rules_hsu_huang::HsuHuang;
 use rules_manne::Manne;
-
-fn takes_target(act: Act) -> bool
-    ensures { result ≡ step.takes_target act }
-{
-    match act {
-        Act::Marry | Act::Seduce => true,
-        Act::Update | Act::Abandon => false,
-    }
-}
 
 fn move_from<T: AsRecord>(
     own: &NodeRecord,
@@ -54,7 +44,6 @@ fn move_from<T: AsRecord>(
     }
 }
 
-/// Refuses what no state shows.
 fn checked<T: AsRecord>(own: &NodeRecord, around: &[T]) -> Result<(), ViewFault>
     ensures ok { OnOk result (ShowsAtNode (star own.now (map T.shows around.now)) own.now (map T.shows around.now)) }
     ensures fault { IfErr result (λ why. first_fault own.now (map T.shows around.now) ≡ Some why) }
@@ -66,7 +55,6 @@ fn checked<T: AsRecord>(own: &NodeRecord, around: &[T]) -> Result<(), ViewFault>
     }
 }
 
-/// The rule that is enabled at the node, in the star.
 fn guard<R: LocalRules, T: AsRecord>(own: &NodeRecord, around: &[T]) -> Option<Act>
     requires shown { ShowsAtNode (star own.now (map T.shows around.now)) own.now (map T.shows around.now) }
     ensures { result ≡ rule_at R.table (star own.now (map T.shows around.now)) own.now.node }
@@ -74,7 +62,6 @@ fn guard<R: LocalRules, T: AsRecord>(own: &NodeRecord, around: &[T]) -> Option<A
     R::guard(&Seen::<R, T>::new(own, around), own.node)
 }
 
-/// The target of the enabled rule, in the star.
 fn target<R: LocalRules, T: AsRecord>(
     own: &NodeRecord,
     around: &[T],
@@ -87,7 +74,6 @@ fn target<R: LocalRules, T: AsRecord>(
     R::target(&Seen::<R, T>::new(own, around), own.node, wish)
 }
 
-/// The least target of the enabled rule, in the star.
 fn least<R: LocalRules, T: AsRecord>(own: &NodeRecord, around: &[T], act: Act) -> Option<Node>
     requires shown { ShowsAtNode (star own.now (map T.shows around.now)) own.now (map T.shows around.now) }
     requires enabled { rule_at R.table (star own.now (map T.shows around.now)) own.now.node ≡ Some act }
@@ -139,7 +125,6 @@ pub fn may_move<R: LocalRules, T: AsRecord>(
     Ok(is_allowed::<R, T>(own, around, act, target))
 }
 
-/// Whether the machine may move the node so, in the star.
 fn is_allowed<R: LocalRules, T: AsRecord>(
     own: &NodeRecord,
     around: &[T],
@@ -151,7 +136,7 @@ fn is_allowed<R: LocalRules, T: AsRecord>(
 {
     match guard::<R, T>(own, around) {
         Some(enabled) if enabled == act => match wish {
-            None => !takes_target(act),
+            None => matches!(act, Act::Update | Act::Abandon),
             Some(_) => target::<R, T>(own, around, wish).is_ok(),
         },
         _ => false,

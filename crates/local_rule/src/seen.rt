@@ -4,7 +4,7 @@ ghost use Rattle.std.specs.Prelude.{◌≡◌, map};
 ghost use Rattle.std.proofs.Props.{props};
 ghost use Rattle.local_rule.specs.Views.{ShowsAtNode, record_of};
 ghost use Rattle.local_rule.specs.Looks.{answered_among, suitor_in, opens_in, first_open_in, open_above_in, name_found};
-ghost use Rattle.local_rule.specs.Star.{star, record_in, target_found, flag_in};
+ghost use Rattle.local_rule.specs.Star.{star, record_in, target_found};
 ghost use Rattle.rule_machine.specs.State.{is_at};
 
 use crate::AsRecord;
@@ -53,26 +53,6 @@ fn target_of<T: AsRecord>(around: &[T], w: Node) -> Option<Node>
     }
 }
 
-/// The pointer of the node or of a neighbour.
-fn pointer_in<T: AsRecord>(own: &NodeRecord, around: &[T], v: Node) -> Option<Node>
-    ensures { result ≡ target_found (record_in own.now (map T.shows around.now) v) }
-{
-    match record_in(own, around, v) {
-        Some(row) => row.target,
-        None => None,
-    }
-}
-
-/// The flag of the node or of a neighbour.
-fn flag_in<T: AsRecord>(own: &NodeRecord, around: &[T], v: Node) -> bool
-    ensures { result ≡ flag_in (record_in own.now (map T.shows around.now) v) }
-{
-    match record_in(own, around, v) {
-        Some(row) => row.flagged,
-        None => false,
-    }
-}
-
 /// Whether `w` is a neighbour that points at `v`.
 fn is_suitor<T: AsRecord>(around: &[T], v: Node, w: Node) -> bool
     ensures { result ≡ is_at (target_found (record_of (map T.shows around.now) w)) v }
@@ -90,7 +70,6 @@ fn is_open<R: Rules, T: AsRecord>(around: &[T], w: Node) -> bool
     }
 }
 
-/// Whether the node that the node points at points back.
 pub(crate) fn is_answered<T: AsRecord>(own: &NodeRecord, around: &[T]) -> bool
     ensures { result ≡ answered_among own.now (map T.shows around.now) }
 {
@@ -146,11 +125,17 @@ impl<R: Rules, T: AsRecord> Local for Seen<'_, R, T> {
     ghost opens = { R.table.opens };
 
     fn pointer(&self, v: Node) -> Option<Node> {
-        pointer_in(self.own, self.around, v)
+        match record_in(self.own, self.around, v) {
+            Some(row) => row.target,
+            None => None,
+        }
     }
 
     fn flag(&self, v: Node) -> bool {
-        flag_in(self.own, self.around, v)
+        match record_in(self.own, self.around, v) {
+            Some(row) => row.flagged,
+            None => false,
+        }
     }
 
     fn married(&self) -> bool {

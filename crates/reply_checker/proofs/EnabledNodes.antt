@@ -1,5 +1,5 @@
 -- Whether a rule is enabled at a node with a null pointer: one look at its neighbours decides.
-use Rattle.reply_checker.proofs.Prelude.{◌≡◌, ℕ, Bool, true, false, cond, not, ◌&&◌, ◌||◌, List, [], ◌∷◌, take, drop, length, ◌-◌, find, Option, None, Some, is_some, is_none, nat_le, ap, ap₂, ◌∙◌, null_unmarried, refl, sym, arith, list_any, list_any-append, take-append-drop, take_all, length-drop, or_right, neighbours, State, pointer, points, flag, suits, has_suitor, holds_at, is_open, rule_at, hsu_huang, hsu_huang_opens, manne, may_court, Act, Update, Marry, Seduce, Abandon}
+use Rattle.reply_checker.proofs.Prelude.{◌≡◌, ℕ, Bool, true, false, cond, not, ◌&&◌, ◌||◌, List, [], ◌∷◌, take, drop, length, ◌-◌, find, Option, None, Some, is_some, is_none, nat_le, ap, ap₂, ◌∙◌, null_unmarried, refl, sym, arith, list_any, list_any-append, take-append-drop, take_all, length-drop, or_right, neighbours, State, pointer, points, flag, suits, has_suitor, married, holds_at, is_open, rule_at, hsu_huang, hsu_huang_opens, manne, may_court, Act, Update, Marry, Seduce, Abandon}
 
 one_of_both : (p q : ℕ → Bool) (xs : List ℕ) → list_any (λ w. p w || q w) xs ≡ (is_some (find p xs) || is_some (find q xs))
 one_of_both p q [] = refl
@@ -54,3 +54,7 @@ manne_null s v unflagged null =
     by true court = refl
     by false true = refl
     by false false = refl
+
+-- a node with a null pointer and a right flag is unflagged
+pub manne_null_settled : (s : State) (v : ℕ) → flag s v ≡ married s v → pointer s v ≡ None → list_any (λ w. suits s v w || may_court s v w) (neighbours s.network v) ≡ is_some (rule_at manne s v)
+manne_null_settled s v settled null = manne_null s v (settled ∙ null_unmarried s v null) null

@@ -1,5 +1,5 @@
 -- The moves of a step are of present nodes, to neighbours.
-use Rattle.reply_checker.proofs.Prelude.{◌≡◌, ℕ, ◌&&◌, not, List, [], Any, All, Option, None, Some, IsSomeAnd, IsTrue, is_some, nat_lt, find, sym, subst, ◌∙◌, and_parts, All-weaker, none-some, Act, Update, Marry, Seduce, Abandon, Item, Moved, Event, Link, Unlink, Point, Flag, Step, Show, Enabled, Matching, Status, Join, Leave, Reply, Moves, RuleSet, Hh, Manne, linked, present, neighbours, State, may_court, table_of, IsTarget, IsMoveOf, IsStep, refusal_of, step_refusal, Does, IsMoveIn, IsStepChoice, choice_from_none, taken_at}
+use Rattle.reply_checker.proofs.Prelude.{◌≡◌, ℕ, ◌&&◌, not, List, [], Any, All, Option, None, Some, IsSomeAnd, IsTrue, is_some, nat_lt, find, refl, sym, subst, ◌∙◌, and_parts, All-weaker, none-some, Act, Update, Marry, Seduce, Abandon, Item, Moved, Event, Link, Unlink, Point, Flag, Step, Show, Enabled, Matching, Status, Join, Leave, Reply, Moves, RuleSet, Hh, Manne, linked, present, neighbours, State, RuleTable, may_court, table_of, IsTarget, IsMoveOf, IsStep, refusal_of, step_refusal, Does, IsMoveIn, IsStepChoice, choice_from_none, taken_at}
 
 allowed_near : (rules : RuleSet) (s : State) (v : ℕ) (act : Act) (w : ℕ) → IsTrue ((table_of rules).allowed s v act w) → IsTrue (linked s.network v w)
 allowed_near Hh s v Update w h = absurd cc
@@ -49,3 +49,8 @@ does_in rules s n Status moves s' none does = absurd does
 pub reply_in : (rules : RuleSet) (s : State) (n : ℕ) (event : Event) (reply : Reply) (moves : List Moved) (s' : State) → reply ≡ Moves moves → refusal_of (table_of rules) s event ≡ None → Does (table_of rules) s n event reply s' → All (IsMoveIn s.network) moves
 reply_in rules s n event reply moves s' is none does =
     does_in rules s n event moves s' none (subst (λ r. Does (table_of rules) s n event r s') is does)
+
+-- no other reply is right for a step
+pub no_moves : (t : RuleTable) (s : State) (n : ℕ) (items : List Item) (reply : Reply) (s' : State) → ((moves : List Moved) → reply ≡ Moves moves → ⊥) → Does t s n (Step items) reply s' → ⊥
+no_moves t s n items (Moves moves) s' other does = other moves refl
+no_moves t s n items reply s' other does = absurd does

@@ -1,14 +1,11 @@
 -- On whose registers it depends whether a rule is enabled at a node: its target's, a caller's, or its own alone.
-use Rattle.reply_checker.proofs.Prelude.{◌≡◌, ℕ, Bool, true, false, cond, not, ◌&&◌, ◌||◌, List, [], ◌∷◌, find, Option, None, Some, IfSome, IsTrue, is_some, nat_le, refl, sym, ap, ap₂, ◌∙◌, arith, eq-eqb, true≢false, list_any, near_agree, near_found, pointer_linked, points_from, points_true, married_from, null_unmarried, unanswered_unmarried, linked, neighbours, State, IsState, RuleTable, rule_at, pointer, flag, points, is_at, is_none, nat_lt, hsu_huang, manne, hsu_huang_calls, manne_calls, RestsOn}
+use Rattle.reply_checker.proofs.Prelude.{◌≡◌, ℕ, Bool, true, false, cond, not, ◌&&◌, ◌||◌, find, Option, None, Some, IfSome, IsTrue, is_some, nat_le, refl, sym, ap, ap₂, ◌∙◌, arith, eq-eqb, true≢false, list_any, near_agree, near_found, pointer_linked, points_from, points_true, married_from, null_unmarried, unanswered_unmarried, linked, neighbours, State, IsState, RuleTable, rule_at, pointer, flag, points, is_at, is_none, nat_lt, hsu_huang, manne, hsu_huang_calls, manne_calls, RestsOn}
 use Rattle.reply_checker.proofs.EnabledNodes.{hsu_huang_null, manne_null}
-
-any_found : (p : ℕ → Bool) (xs : List ℕ) → list_any p xs ≡ is_some (find p xs)
-any_found p [] = refl
-any_found p (x ∷ xs) = let rest = any_found p xs in grind arith
+use Rattle.reply_checker.proofs.Table.{found_any}
 
 -- a neighbour passes
 any_near : (s : State) (p : ℕ → Bool) (v w : ℕ) → IsState s → IsTrue (linked s.network v w) → IsTrue (p w) → list_any p (neighbours s.network v) ≡ true
-any_near s p v w good link passes = any_found p (neighbours s.network v) ∙ ap is_some (near_found s.network p v w good.is_network link passes).1
+any_near s p v w good link passes = sym (found_any p (neighbours s.network v)) ∙ ap is_some (near_found s.network p v w good.is_network link passes).1
 
 -- if the pointer is not null, the target's registers and its own decide
 pub rests_on_target : (t : RuleTable) (f : Bool → Option ℕ → Bool → Bool) (s : State) (v w : ℕ) → ((x : State) → IsState x → pointer x v ≡ Some w → is_some (rule_at t x v) ≡ f (flag x v) (pointer x w) (flag x w)) → IsState s → pointer s v ≡ Some w → RestsOn t s v (Some w)
@@ -27,7 +24,7 @@ rests_on_caller t calls s v None value good link called u good' same =
     let q : ℕ → Bool = λ w. calls w (pointer u w) (flag u w) in
     let agree : find p (neighbours s.network v) ≡ find q (neighbours u.network v) = near_agree s.network p q v (λ w near. ap₂ (calls w) (same.pointers w near refl) (same.flags w near refl)) ∙ ap (find q) same.neighbours in
     ap₂ (λ a b. a && b) (sym same.presence)
-    (sym (value u (sym same.own_pointer) (sym same.own_flag)) ∙ any_found q (neighbours u.network v) ∙ ap is_some (sym agree) ∙ sym (any_found p (neighbours s.network v)) ∙ value s refl refl)
+    (sym (value u (sym same.own_pointer) (sym same.own_flag)) ∙ sym (found_any q (neighbours u.network v)) ∙ ap is_some (sym agree) ∙ found_any p (neighbours s.network v) ∙ value s refl refl)
 rests_on_caller t calls s v (Some w) value good link called u good' same =
     let own = eq-eqb w w refl in
     let before = any_near s (λ x. calls x (pointer s x) (flag s x)) v w good link called in

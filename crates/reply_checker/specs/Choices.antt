@@ -53,15 +53,11 @@ HasOnlyItemsOf table items = (v : ℕ) → is_item_node items v ≡ false → ru
 abbrev pub IsClear : List (Option RuledItem) → Type 0
 IsClear table = (v : ℕ) → ruled_at table v ≡ None
 
--- why an item of a present node that was not chosen before is refused, if it is
-abbrev pub refused_rule : RuleTable → State → Item → Option Refusal
-refused_rule t s item = rule_refusal t s item (rule_at t s item.node)
-
 -- why an item is refused, if it is; the Bool is whether its node was chosen before
 abbrev pub refused_item : RuleTable → State → Item → Bool → Option Refusal
 refused_item t s item twice =
     if not (present s.network item.node) then Some UnknownNode
-    else (if twice then Some ChosenTwice else refused_rule t s item)
+    else (if twice then Some ChosenTwice else rule_refusal t s item (rule_at t s item.node))
 
 -- the result for an item: the reason if it is refused, else its rule
 abbrev pub IsItemVerdict : RuleTable → State → Item → Option Refusal → Result Act Refusal → Type 0

@@ -20,15 +20,9 @@ use Rattle.reply_checker.specs.declared.totals.Totals.{Totals}
 use Rattle.reply_checker.specs.AscendingLists.{lower_end_pair}
 
 -- a name's stance towards its edges
-abbrev pub hsu_huang_end : State → ℕ → EdgeStance
-hsu_huang_end s v = cond (married s v) Shut (cond (is_courted s v) Courted Free)
-
-abbrev pub manne_end : State → ℕ → EdgeStance
-manne_end s v = cond (married s v) Shut Free
-
 abbrev pub edge_stance_by : RuleSet → State → ℕ → EdgeStance
-edge_stance_by Hh s v = hsu_huang_end s v
-edge_stance_by Manne s v = manne_end s v
+edge_stance_by Hh s v = cond (married s v) Shut (cond (is_courted s v) Courted Free)
+edge_stance_by Manne s v = cond (married s v) Shut Free
 
 -- whether the pointer of v closes an edge that is open by the stances of its ends
 abbrev pub closes : RuleSet → State → ℕ → Bool

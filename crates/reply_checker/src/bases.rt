@@ -15,7 +15,6 @@ use net_state::{NetState, has_flag};
 use rule_machine::{Base, Listing, NodeRecord, RuleSet, Want};
 use std::alloc::Global;
 
-/// The bound on moves spent plus charge: twice the number of edges plus the rules' weight per node.
 fn bound(net: &NetState, rules: RuleSet) -> u64
     ensures { result ≡ charge_bound (weight_of rules) net.now.state.network }
 {

@@ -8,10 +8,35 @@ ghost use Rattle.rule_machine.specs.Network.{linked, neighbours, present};
 ghost use Rattle.rule_machine.specs.State.{IsState};
 ghost use Rattle.reply_checker.specs.Callers.{calls_by};
 
-use crate::rules::first_caller;
 use crate::witness::Witness;
 use net_state::NetState;
 use rule_machine::{Node, RuleSet};
+
+#[inline(always)]
+fn calls(net: &NetState, rules: RuleSet, v: Node, w: Node) -> bool
+    requires { IsTrue (present net.now.state.network w) }
+    ensures { result ≡ calls_by rules net.now.state v w }
+{
+    net.points(w, v)
+        || match rules {
+            RuleSet::Hh => net.pointer(w).is_none(),
+            RuleSet::Manne => v < w && net.pointer(w).is_none() && !net.flag(w),
+        }
+}
+
+pub(crate) fn first_caller(net: &NetState, rules: RuleSet, row: &[Node], v: Node) -> Option<usize>
+    requires { All (λ w. IsTrue (present net.now.state.network w)) row.now }
+    ensures some { is_some result ≡ list_any (calls_by rules net.now.state v) row.now }
+    ensures inside { IfSome result (λ at. at < length row.now) }
+    ensures calls { IfSome result (λ at. IsTrue (calls_by rules net.now.state v (slice_index_or row.now at 0))) }
+{
+    for (at, &w) in row.iter().enumerate() {
+        if calls(net, rules, v, w) {
+            return Some(at);
+        }
+    }
+    None
+}
 
 /// The index of the first caller in `row` from index `start` on, or else of the first before `start`.
 fn caller_from(net: &NetState, rules: RuleSet, row: &[Node], v: Node, start: usize) -> Option<usize>

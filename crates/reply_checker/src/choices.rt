@@ -64,7 +64,6 @@ impl ChosenItems {
         }
     }
 
-    /// Removes the entries of the nodes that `items` name.
     pub(crate) fn clear(&mut self, items: &[Item])
         ensures len { length self.new ≡ length self.old }
         ensures out { (v : ℕ) → ruled_at self.new v ≡ cond (is_item_node items.now v) None (ruled_at self.old v) }

@@ -8,7 +8,7 @@ ghost use Rattle.rule_machine.specs.Tables.{table_of};
 ghost use Rattle.reply_checker.specs.Contributions.{IsShare, edge_stance_by};
 ghost use Rattle.reply_checker.specs.AscendingLists.{lower_end_pair};
 
-use crate::rules::{closes, end_of, flag_charge, rule_at};
+use crate::rules::{closes, flag_charge, rule_at};
 use net_state::{EdgeStance, NetState};
 use rule_machine::{Act, Node, RuleSet};
 
@@ -70,7 +70,8 @@ fn is_unanswered(net: &NetState, v: Node) -> bool
     }
 }
 
-/// A node's stance towards its edges; `Shut` for an absent name. `rule` is the rule enabled at `v`.
+/// A node's stance towards its edges; `Shut` for an absent name. `rule` is the rule enabled at `v`: by Hsu and
+/// Huang's rules a node with a null pointer has a suitor exactly if the node may marry.
 #[inline(always)]
 pub(crate) fn end_at(net: &NetState, rules: RuleSet, v: Node, rule: Option<Act>) -> EdgeStance
     requires within { v ≤ net.now.state.network.size }
@@ -80,5 +81,11 @@ pub(crate) fn end_at(net: &NetState, rules: RuleSet, v: Node, rule: Option<Act>)
     if !net.has(v) {
         return EdgeStance::Shut;
     }
-    end_of(net, rules, v, rule)
+    match rules {
+        RuleSet::Hh if net.married(v) => EdgeStance::Shut,
+        RuleSet::Hh if rule == Some(Act::Marry) => EdgeStance::Courted,
+        RuleSet::Hh => EdgeStance::Free,
+        RuleSet::Manne if net.married(v) => EdgeStance::Shut,
+        RuleSet::Manne => EdgeStance::Free,
+    }
 }

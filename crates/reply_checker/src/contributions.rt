@@ -79,7 +79,6 @@ impl Contributions {
         self.closing = self.closing - u32::from(was.closes) + u32::from(share.closes);
     }
 
-    /// Goes by other rules; all names are due.
     pub(crate) fn go_by(&mut self, rules: RuleSet)
         ensures rules { self.new.rules ≡ rules }
         ensures kept { (self.new.each.items ≡ self.old.each.items) × (self.new.touched ≡ self.old.touched) }

@@ -6,12 +6,11 @@ ghost use Rattle.rule_machine.specs.State.{IsState, State, opening, opening_with
 ghost use Rattle.rule_machine.specs.Tables.{table_of};
 ghost use Rattle.reply_checker.specs.ReplyVerdicts.{IsWrong, IsAcceptedLink};
 
-use crate::edits::opened;
 use crate::judging::judge_reply;
 use crate::{ChosenItems, CountedNet};
 use net_state::NetState;
 use rule_machine::{Event, Reply, RuleSet, Want};
-use std::alloc::Global;
+use std::alloc::{AllocError, Global};
 use std::marker::Model;
 
 /// A network that judges replies; contracts see a state.
@@ -55,7 +54,9 @@ impl Judge {
         requires within { present ≤ nodes }
         ensures { IfOk result (λ judge. judge ≡ opening_with nodes present) }
     {
-        let net = opened(alloc, nodes, present)?;
+        let Ok(net) = NetState::with_present(alloc, nodes, present) else {
+            return Err(AllocError);
+        };
         let counted = CountedNet::new(alloc, net)?;
         Judge::of_counted(alloc, counted)
     }

@@ -1,24 +1,23 @@
 //! Judges a reply, and carries out the event of a right reply.
 
 ghost use Rattle.std.specs.Prelude.{◌≡◌, ◌↔◌, ℕ, None, false, IsTrue, IfOk, OnOk, OnErr, length};
-ghost use Rattle.rule_machine.specs.Answer.{Answers, Does};
+ghost use Rattle.rule_machine.specs.Answer.{Answers};
 ghost use Rattle.rule_machine.specs.Refuse.{refusal_of};
 ghost use Rattle.rule_machine.specs.RuleTable.{RuleTable};
 ghost use Rattle.rule_machine.specs.Tables.{table_of};
 ghost use Rattle.machine_laws.specs.StatesAfterReplies.{followed, disturbed};
 ghost use Rattle.reply_checker.specs.Choices.{HasChosenItems, HasOnlyItemsOf, IsClearTable};
-ghost use Rattle.reply_checker.specs.ReplyVerdicts.{DoesWrong, IsRightReply, IsWrong, IsAcceptedLink, is_link, items_of};
+ghost use Rattle.reply_checker.specs.ReplyVerdicts.{IsRightReply, IsWrong, IsAcceptedLink, is_link, items_of};
 
 use crate::questions::{are_enabled, are_mutual, has_counts};
 use crate::reads::pointer;
 use crate::refusals::{
     flag_refusal, join_refusal, link_refusal, point_refusal, show_refusal, unlink_refusal,
 };
-use crate::replies::{is_accepted, is_refusal, is_shown};
 use crate::steps::{is_step, step_refusal};
 use crate::{ChosenItems, CountedNet};
 use net_state::{NetState, join, leave, make_moves, set_flag, unlink};
-use rule_machine::{Event, Item, Refusal, Reply, RuleSet, Want};
+use rule_machine::{Event, Node, Refusal, Reply, RuleSet, Want};
 
 /// As `Judge::replay`; afterwards `chosen` may contain items of the event, if the event is a step.
 pub(crate) fn judge_reply(
@@ -40,12 +39,14 @@ pub(crate) fn judge_reply(
 {
     match refusal(&counted.net, rules, event, chosen) {
         Some(refusal) => Ok(is_refusal(reply, refusal)),
-        None => judge_accepted(counted, rules, spent, event, reply, chosen),
+        None if !may_accept(counted, rules, spent, event, reply, chosen) => Ok(false),
+        None => {
+            follow(counted, rules, event, reply)?;
+            Ok(true)
+        }
     }
 }
 
-/// Why an event is refused.
-///
 /// Afterwards `chosen` contains the items of a step before the first refused item.
 fn refusal(
     net: &NetState,
@@ -71,31 +72,6 @@ fn refusal(
     }
 }
 
-fn judge_accepted(
-    counted: &mut CountedNet,
-    rules: RuleSet,
-    spent: u64,
-    event: &Event,
-    reply: &Reply,
-    chosen: &mut ChosenItems,
-) -> Result<bool, Want>
-    requires accepted { refusal_of (table_of rules) counted.old.net.state event.now ≡ None }
-    requires held { HasChosenItems (table_of rules) counted.old.net.state chosen.old (items_of event.now) }
-    ensures right { IfOk result (λ ok. IsTrue ok → Does (table_of rules) counted.old.net.state spent event.now reply.now counted.new.net.state) }
-    ensures wrong { IfOk result (λ ok. ok ≡ false → DoesWrong (table_of rules) counted.old.net.state spent event.now reply.now counted.new.net.state) }
-    ensures err { OnErr result (counted.new.net.state ≡ counted.old.net.state) }
-    ensures want { OnErr result (IsTrue (is_link event.now) × (reply.now ≡ Reply.Accepted)) }
-    ensures size { counted.new.net.state.network.size ≡ counted.old.net.state.network.size }
-    ensures within { HasOnlyItemsOf chosen.new (items_of event.now) }
-    ensures len { length chosen.new ≡ length chosen.old }
-{
-    if !may_accept(counted, rules, spent, event, reply, chosen) {
-        return Ok(false);
-    }
-    follow(counted, rules, event, reply)?;
-    Ok(true)
-}
-
 fn may_accept(
     counted: &mut CountedNet,
     rules: RuleSet,
@@ -118,30 +94,22 @@ fn may_accept(
         | Event::Flag(_, _)
         | Event::Join(_)
         | Event::Leave(_) => is_accepted(reply),
-        Event::Step(choice) => may_move(&counted.net, rules, choice.items(), reply, chosen),
+        Event::Step(choice) => match reply {
+            Reply::Moves(moves) => {
+                is_step(
+                    &counted.net,
+                    rules,
+                    choice.items(),
+                    moves.as_slice(),
+                    chosen,
+                )
+            }
+            _ => false,
+        },
         Event::Show(v) => is_shown(pointer(&counted.net, *v), reply),
         Event::Enabled => are_enabled(counted, rules, reply),
         Event::Matching => are_mutual(counted, rules, reply),
         Event::Status => has_counts(counted, rules, spent, reply),
-    }
-}
-
-fn may_move(
-    net: &NetState,
-    rules: RuleSet,
-    items: &[Item],
-    reply: &Reply,
-    chosen: &mut ChosenItems,
-) -> bool
-    requires accepted { refusal_of (table_of rules) net.now.state (Event.Step items.now) ≡ None }
-    requires held { HasChosenItems (table_of rules) net.now.state chosen.old items.now }
-    ensures value { (spent : ℕ) → IsTrue result ↔ IsRightReply (table_of rules) net.now.state spent (Event.Step items.now) reply.now }
-    ensures within { HasOnlyItemsOf chosen.new items.now }
-    ensures len { length chosen.new ≡ length chosen.old }
-{
-    match reply {
-        Reply::Moves(moves) => is_step(net, rules, items, moves.as_slice(), chosen),
-        _ => false,
     }
 }
 
@@ -184,4 +152,22 @@ fn disturb(counted: &mut CountedNet, event: &Event) -> Result<(), Want>
         Event::Step(_) | Event::Show(_) | Event::Enabled | Event::Matching | Event::Status => {}
     }
     Ok(())
+}
+
+fn is_accepted(reply: &Reply) -> bool
+    ensures { IsTrue result ↔ (reply.now ≡ Reply.Accepted) }
+{
+    matches!(reply, Reply::Accepted)
+}
+
+fn is_refusal(reply: &Reply, refusal: Refusal) -> bool
+    ensures { IsTrue result ↔ (reply.now ≡ Reply.Refused refusal) }
+{
+    matches!(reply, Reply::Refused(given) if *given == refusal)
+}
+
+fn is_shown(pointer: Option<Node>, reply: &Reply) -> bool
+    ensures { IsTrue result ↔ (reply.now ≡ Reply.Shown pointer) }
+{
+    matches!(reply, Reply::Shown(target) if *target == pointer)
 }

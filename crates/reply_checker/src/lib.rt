@@ -22,7 +22,6 @@ mod choices;
 mod contribution;
 mod contributions;
 mod counted_net;
-mod edits;
 mod hsu_huang;
 mod judge;
 mod judging;
@@ -30,10 +29,8 @@ mod manne;
 mod questions;
 mod reads;
 mod refusals;
-mod replies;
 mod rules;
 mod steps;
-mod targets;
 mod totals;
 mod witness;
 

@@ -1,8 +1,7 @@
 //! The rules of Manne, Mjelde, Pilard and Tixeuil: any set of nodes moves at once, and flags show who is
 //! married.
 
-ghost use Rattle.std.specs.Prelude.{◌≡◌, ◌<◌, ◌≤◌, ◌&&◌, All, IfSome, IsTrue, Some, find, is_none, is_some, length, nat_lt, not, slice_index_or};
-ghost use Rattle.std.specs.List.{list_any};
+ghost use Rattle.std.specs.Prelude.{◌≡◌, ◌<◌, ◌≤◌, ◌&&◌, IsTrue, Some, find, is_some, nat_lt};
 ghost use Rattle.rule_machine.specs.Charge.{manne_node_charge};
 ghost use Rattle.rule_machine.specs.Network.{neighbours, present};
 ghost use Rattle.rule_machine.specs.State as state;
@@ -10,20 +9,15 @@ ghost use Rattle.rule_machine.specs.RuleTable as table;
 ghost use Rattle.rule_machine.specs.Manne.{manne, manne_allowed, may_court};
 ghost use Rattle.machine_laws.specs.ClosedByPointers.{manne_closes};
 ghost use Rattle.machine_laws.specs.Costs as costs;
-ghost use Rattle.reply_checker.specs.Callers.{manne_calls};
 ghost use Rattle.reply_checker.specs.Witnesses.{RestsOn};
-ghost use Rattle.reply_checker.specs.Contributions.{manne_end};
 
-use crate::callers::calls_any;
+use crate::callers::{calls_any, first_caller};
 use crate::reads::{degree, first_suitor, flag, has_suitor, pointer, points_back};
 use crate::witness::Witness;
-use net_state::{EdgeStance, NetState};
+use net_state::NetState;
 use rule_machine::{Act, Event, Node, RuleSet};
 
-pub(crate) const IS_CENTRAL: bool = false;
-
-pub(crate) const USES_FLAGS: bool = true;
-
+#[tactic(auto, using(crate::proofs::EnabledNodes::manne_null_settled))]
 #[inline(always)]
 pub(crate) fn rule_at(net: &NetState, v: Node) -> Option<Act>
     requires { IsTrue (present net.now.state.network v) }
@@ -35,13 +29,12 @@ pub(crate) fn rule_at(net: &NetState, v: Node) -> Option<Act>
     match net.pointer(v) {
         Some(w) if !points_back(net, v, w) && (flag(net, w) || w <= v) => Some(Act::Abandon),
         Some(_) => None,
+        None if first_caller(net, RuleSet::Manne, net.neighbours(v), v).is_none() => None,
         None if first_suitor(net, v).is_some() => Some(Act::Marry),
-        None if first_to_court(net, v).is_some() => Some(Act::Seduce),
-        None => None,
+        None => Some(Act::Seduce),
     }
 }
 
-/// Whether a rule is enabled; stores the node's witness.
 pub(crate) fn is_enabled(net: &NetState, v: Node, witness: &mut Witness) -> bool
     requires { IsTrue (present net.now.state.network v) }
     ensures value { result ≡ is_some (table.rule_at manne net.now.state v) }
@@ -69,21 +62,6 @@ fn updates_or_abandons(net: &NetState, v: Node, w: Node) -> bool
 {
     let _ = net.registers();
     net.flag(v) != net.married(v) || (!points_back(net, v, w) && (flag(net, w) || w <= v))
-}
-
-/// The index of the first of `row` that points at `v`, or that `v` may court.
-pub(crate) fn first_caller(net: &NetState, row: &[Node], v: Node) -> Option<usize>
-    requires { All (λ w. IsTrue (present net.now.state.network w)) row.now }
-    ensures some { is_some result ≡ list_any (manne_calls net.now.state v) row.now }
-    ensures inside { IfSome result (λ at. at < length row.now) }
-    ensures calls { IfSome result (λ at. IsTrue (manne_calls net.now.state v (slice_index_or row.now at 0))) }
-{
-    for (at, &w) in row.iter().enumerate() {
-        if net.points(w, v) || (v < w && net.pointer(w).is_none() && !net.flag(w)) {
-            return Some(at);
-        }
-    }
-    None
 }
 
 pub(crate) fn is_allowed(net: &NetState, v: Node, act: Act, w: Node) -> bool
@@ -124,7 +102,6 @@ pub(crate) fn closes(net: &NetState, v: Node) -> bool
     }
 }
 
-/// Whether `w`, the target of `v`, is above `v`, not flagged and not married.
 #[inline(always)]
 fn closes_at(net: &NetState, v: Node, w: Node) -> bool
     requires at { state.pointer net.now.state v ≡ Some w }
@@ -134,41 +111,10 @@ fn closes_at(net: &NetState, v: Node, w: Node) -> bool
     v < w && !net.flag(w) && !net.married(w)
 }
 
-#[inline(always)]
-pub(crate) fn end_of(net: &NetState, v: Node) -> EdgeStance
-    requires { IsTrue (present net.now.state.network v) }
-    ensures { result ≡ manne_end net.now.state v }
-{
-    if net.married(v) {
-        EdgeStance::Shut
-    } else {
-        EdgeStance::Free
-    }
-}
-
 fn may_court(net: &NetState, v: Node, w: Node) -> bool
     ensures { result ≡ may_court net.now.state v w }
 {
     v < w && pointer(net, w).is_none() && !flag(net, w)
-}
-
-fn first_to_court(net: &NetState, v: Node) -> Option<Node>
-    requires { IsTrue (present net.now.state.network v) }
-    ensures { result ≡ find (may_court net.now.state v) (neighbours net.now.state.network v) }
-{
-    first_to_court_among(net.neighbours(v), net, v)
-}
-
-fn first_to_court_among(row: &[Node], net: &NetState, v: Node) -> Option<Node>
-    requires { All (λ w. IsTrue (present net.now.state.network w)) row.now }
-    ensures { result ≡ find (λ w. (is_none (state.pointer net.now.state w) && not (state.flag net.now.state w)) && nat_lt v w) row.now }
-{
-    for &w in row {
-        if v < w && net.pointer(w).is_none() && !net.flag(w) {
-            return Some(w);
-        }
-    }
-    None
 }
 
 fn first_to_court_above(net: &NetState, v: Node, w: Node) -> Option<Node>
@@ -188,23 +134,18 @@ pub(crate) fn cost_of(net: &NetState, event: &Event) -> u32
 {
     match event {
         Event::Link(_, _) => 2,
-        Event::Unlink(a, b) => unlink_cost(net, *a, *b),
+        Event::Unlink(a, b) if net.points(*a, *b) && net.points(*b, *a) => {
+            2 * (degree(net, *a).saturating_sub(1) + degree(net, *b).saturating_sub(1)) + 4
+        }
+        Event::Unlink(_, _) => 0,
         Event::Point(v, _) => point_cost(net, *v),
-        Event::Flag(v, value) => flag_cost(net, *v, *value),
+        Event::Flag(v, true) if has_suitor(net, *v) => 1 + 2 * degree(net, *v),
+        Event::Flag(_, _) => 1,
         Event::Join(_) => 1,
         Event::Leave(v) => leave_cost(net, *v),
         Event::Step(_) | Event::Show(_) => 0,
         Event::Enabled | Event::Matching | Event::Status => 0,
     }
-}
-
-fn unlink_cost(net: &NetState, a: Node, b: Node) -> u32
-    ensures { result ≡ costs.manne_cost net.now.state (Event.Unlink a b) }
-{
-    if !(net.points(a, b) && net.points(b, a)) {
-        return 0;
-    }
-    2 * (degree(net, a).saturating_sub(1) + degree(net, b).saturating_sub(1)) + 4
 }
 
 fn point_cost(net: &NetState, v: Node) -> u32
@@ -214,16 +155,6 @@ fn point_cost(net: &NetState, v: Node) -> u32
         Some(u) if net.points(u, v) => 2 * (degree(net, v) + degree(net, u)) + 4,
         Some(_) => 2,
         None => 1,
-    }
-}
-
-fn flag_cost(net: &NetState, v: Node, value: bool) -> u32
-    ensures { result ≡ costs.manne_cost net.now.state (Event.Flag v value) }
-{
-    if value && has_suitor(net, v) {
-        1 + 2 * degree(net, v)
-    } else {
-        1
     }
 }
 

@@ -12,8 +12,6 @@ use crate::CountedNet;
 use net_state::NetState;
 use rule_machine::{Act, Edge, Node, Reply, RuleSet};
 
-/// Whether a reply lists exactly the enabled nodes, ascending, each with its rule.
-///
 /// Compares the number of entries with the count of enabled nodes, then checks each entry.
 pub(crate) fn are_enabled(counted: &mut CountedNet, rules: RuleSet, reply: &Reply) -> bool
     ensures value { IsTrue result ↔ (reply.now ≡ Reply.EnabledAre (enabled (table_of rules) counted.old.net.state)) }
@@ -48,13 +46,9 @@ fn has_rule(counted: &CountedNet, v: Node, act: Act) -> bool
     requires { AreFresh counted.now.shares.touched counted.now.shares.due }
     ensures { IsTrue result ↔ (ruled_node (table_of counted.now.shares.rules) counted.now.net.state v ≡ Some (v, act)) }
 {
-    match counted.rule_of(v) {
-        Some(rule) => rule == act,
-        None => false,
-    }
+    counted.rule_of(v) == Some(act)
 }
 
-/// Whether a reply lists exactly the mutual pairs, by ascending lower end.
 pub(crate) fn are_mutual(counted: &mut CountedNet, rules: RuleSet, reply: &Reply) -> bool
     ensures value { IsTrue result ↔ (reply.now ≡ Reply.Pairs (mutual_pairs counted.old.net.state)) }
     ensures kept { counted.new.net.state ≡ counted.old.net.state }
@@ -101,16 +95,14 @@ pub(crate) fn has_counts(
     ensures value { IsTrue result ↔ (reply.now ≡ Reply.Counts (counts_of (table_of rules) counted.old.net.state spent)) }
     ensures kept { counted.new.net.state ≡ counted.old.net.state }
 {
-    match reply {
-        Reply::Counts(given) => {
-            let totals = counted.totals(rules);
-            given.nodes == counted.net.nodes()
-                && given.edges == counted.net.edges()
-                && u64::from(given.spent) == spent
-                && given.pairs == totals.pairs
-                && given.enabled == totals.enabled
-                && given.charge == totals.charge
-        }
-        _ => false,
-    }
+    let Reply::Counts(given) = reply else {
+        return false;
+    };
+    let totals = counted.totals(rules);
+    given.nodes == counted.net.nodes()
+        && given.edges == counted.net.edges()
+        && u64::from(given.spent) == spent
+        && given.pairs == totals.pairs
+        && given.enabled == totals.enabled
+        && given.charge == totals.charge
 }

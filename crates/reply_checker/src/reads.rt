@@ -23,7 +23,6 @@ pub(crate) fn flag(net: &NetState, v: Node) -> bool
     net.is_name(v) && net.flag(v)
 }
 
-/// Whether `w`, the target of `v`, points back at `v`.
 #[inline(always)]
 pub(crate) fn points_back(net: &NetState, v: Node, w: Node) -> bool
     requires { state.pointer net.now.state v ≡ Some w }

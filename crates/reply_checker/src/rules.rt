@@ -1,18 +1,16 @@
-//! What differs by the rule set: each function dispatches to the file of its rules.
+//! What differs by the rule set: most functions dispatch to the file of its rules.
 
-ghost use Rattle.std.specs.Prelude.{◌≡◌, ◌<◌, ◌≤◌, All, IfSome, IsTrue, is_some, length, slice_index_or};
-ghost use Rattle.std.specs.List.{list_any};
+ghost use Rattle.std.specs.Prelude.{◌≡◌, ◌≤◌, IsTrue, is_some};
 ghost use Rattle.rule_machine.specs.Network.{present};
 ghost use Rattle.rule_machine.specs.RuleTable as table;
 ghost use Rattle.rule_machine.specs.Tables.{table_of};
-ghost use Rattle.reply_checker.specs.Callers.{calls_by};
 ghost use Rattle.reply_checker.specs.ReplyVerdicts.{cost_by};
 ghost use Rattle.reply_checker.specs.Witnesses.{RestsOn};
-ghost use Rattle.reply_checker.specs.Contributions.{closes, edge_stance_by, flag_charge};
+ghost use Rattle.reply_checker.specs.Contributions.{closes, flag_charge};
 
 use crate::witness::Witness;
 use crate::{hsu_huang, manne};
-use net_state::{EdgeStance, NetState};
+use net_state::NetState;
 use rule_machine::{Act, Event, Node, RuleSet};
 
 /// The rule that is enabled at a node, if any. Looks at neighbours if the pointer is null.
@@ -45,20 +43,6 @@ pub fn is_enabled(net: &NetState, rules: RuleSet, v: Node, witness: &mut Witness
     }
 }
 
-/// The index of the first of `row` that calls `v`.
-#[inline(always)]
-pub(crate) fn first_caller(net: &NetState, rules: RuleSet, row: &[Node], v: Node) -> Option<usize>
-    requires { All (λ w. IsTrue (present net.now.state.network w)) row.now }
-    ensures some { is_some result ≡ list_any (calls_by rules net.now.state v) row.now }
-    ensures inside { IfSome result (λ at. at < length row.now) }
-    ensures calls { IfSome result (λ at. IsTrue (calls_by rules net.now.state v (slice_index_or row.now at 0))) }
-{
-    match rules {
-        RuleSet::Hh => hsu_huang::first_caller(net, row, v),
-        RuleSet::Manne => manne::first_caller(net, row, v),
-    }
-}
-
 pub(crate) fn is_allowed(net: &NetState, rules: RuleSet, v: Node, act: Act, w: Node) -> bool
     ensures { result ≡ (table_of rules).allowed net.now.state v act w }
 {
@@ -72,8 +56,8 @@ pub(crate) fn is_central(rules: RuleSet) -> bool
     ensures { result ≡ (table_of rules).central }
 {
     match rules {
-        RuleSet::Hh => hsu_huang::IS_CENTRAL,
-        RuleSet::Manne => manne::IS_CENTRAL,
+        RuleSet::Hh => true,
+        RuleSet::Manne => false,
     }
 }
 
@@ -81,8 +65,8 @@ pub(crate) fn uses_flags(rules: RuleSet) -> bool
     ensures { result ≡ (table_of rules).flags }
 {
     match rules {
-        RuleSet::Hh => hsu_huang::USES_FLAGS,
-        RuleSet::Manne => manne::USES_FLAGS,
+        RuleSet::Hh => false,
+        RuleSet::Manne => true,
     }
 }
 
@@ -93,7 +77,7 @@ pub(crate) fn flag_charge(net: &NetState, rules: RuleSet, v: Node) -> u8
     ensures few { result ≤ 2 }
 {
     match rules {
-        RuleSet::Hh => hsu_huang::FLAG_CHARGE,
+        RuleSet::Hh => 0,
         RuleSet::Manne => manne::flag_charge(net, v),
     }
 }
@@ -107,19 +91,6 @@ pub(crate) fn closes(net: &NetState, rules: RuleSet, v: Node) -> bool
     match rules {
         RuleSet::Hh => hsu_huang::closes(net, v),
         RuleSet::Manne => manne::closes(net, v),
-    }
-}
-
-/// The stance of node `v` towards its edges; `rule` is the rule enabled at `v`.
-#[inline(always)]
-pub(crate) fn end_of(net: &NetState, rules: RuleSet, v: Node, rule: Option<Act>) -> EdgeStance
-    requires present { IsTrue (present net.now.state.network v) }
-    requires rule { rule ≡ table.rule_at (table_of rules) net.now.state v }
-    ensures { result ≡ edge_stance_by rules net.now.state v }
-{
-    match rules {
-        RuleSet::Hh => hsu_huang::end_of(net, v, rule),
-        RuleSet::Manne => manne::end_of(net, v),
     }
 }
 

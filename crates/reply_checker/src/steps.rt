@@ -1,22 +1,19 @@
 //! Whether a step is refused, and whether moves are the moves of a step.
 
-ghost use Rattle.std.specs.Prelude.{◌≡◌, ◌+◌, ◌↔◌, [], IfSome, IsTrue, None, Some, length, map, option_map};
+ghost use Rattle.std.specs.Prelude.{◌≡◌, ◌+◌, ◌↔◌, ◌&&◌, [], IfSome, IsTrue, None, Some, length, map, option_map};
 ghost use Rattle.std.specs.List.{list_all};
 ghost use Rattle.std.specs.List.Sorted.{IsStrictlyIncreasing};
-ghost use Rattle.rule_machine.specs.Network.{present};
-ghost use Rattle.rule_machine.specs.RuleTable.{rule_at};
 ghost use Rattle.rule_machine.specs.Refuse as refuse;
-ghost use Rattle.rule_machine.specs.Step.{IsStep, after_moves};
+ghost use Rattle.rule_machine.specs.Step.{IsStep, after_moves, takes_target};
 ghost use Rattle.rule_machine.specs.Tables.{table_of};
 ghost use Rattle.machine_laws.specs.MoveTests as judged;
-ghost use Rattle.reply_checker.specs.Choices.{item_at, HasChosenItems, IsItemVerdict, HasOnlyItemsOf, IsClear, IsRuled, AreRuled, refused_item, refused_rule, is_move_by};
+ghost use Rattle.reply_checker.specs.Choices.{item_at, HasChosenItems, IsItemVerdict, HasOnlyItemsOf, IsClear, IsRuled, AreRuled, refused_item, is_move_by};
 
 use crate::ChosenItems;
 use crate::choices::RuledItem;
 use crate::rules::{is_allowed, is_central, rule_at};
-use crate::targets::is_target;
 use net_state::NetState;
-use rule_machine::{Act, Item, Moved, Refusal, RuleSet};
+use rule_machine::{Act, Item, Moved, Node, Refusal, RuleSet};
 
 /// Why a step is refused; afterwards `chosen` contains the items before the first refused item.
 pub(crate) fn step_refusal(
@@ -64,25 +61,16 @@ fn items_refusal(
     None
 }
 
-/// The rule of an item's node, or why the item is refused.
-///
 /// `twice` is whether an earlier item has the same node.
 fn taken(net: &NetState, rules: RuleSet, item: Item, twice: bool) -> Result<Act, Refusal>
     ensures { IsItemVerdict (table_of rules) net.now.state item (refused_item (table_of rules) net.now.state item twice) result }
 {
     if !net.has(item.node) {
-        Err(Refusal::UnknownNode)
-    } else if twice {
-        Err(Refusal::ChosenTwice)
-    } else {
-        ruled(net, rules, item)
+        return Err(Refusal::UnknownNode);
     }
-}
-
-fn ruled(net: &NetState, rules: RuleSet, item: Item) -> Result<Act, Refusal>
-    requires { IsTrue (present net.now.state.network item.node) }
-    ensures { IsItemVerdict (table_of rules) net.now.state item (refused_rule (table_of rules) net.now.state item) result }
-{
+    if twice {
+        return Err(Refusal::ChosenTwice);
+    }
     match rule_at(net, rules, item.node) {
         Some(act) if allows_wish(net, rules, act, item) => Ok(act),
         Some(_) => Err(Refusal::BadTarget),
@@ -158,16 +146,43 @@ fn is_asked(net: &NetState, rules: RuleSet, ruled: Option<RuledItem>, made: Move
     ensures { result ≡ is_move_by (table_of rules) net.now.state (option_map (λ r. r.item) ruled) made }
 {
     match ruled {
-        Some(ruled) => is_move_of(net, rules, ruled.act, ruled.item, made),
+        Some(RuledItem { item, act }) => {
+            made.node == item.node
+                && made.act == act
+                && is_target(net, rules, act, item, made.target)
+        }
         None => false,
     }
 }
 
-fn is_move_of(net: &NetState, rules: RuleSet, act: Act, item: Item, made: Moved) -> bool
+fn is_target(net: &NetState, rules: RuleSet, act: Act, item: Item, target: Option<Node>) -> bool
     requires { IsRuled (table_of rules) net.now.state item act }
-    ensures { result ≡ judged.is_move_of (table_of rules) net.now.state item made }
+    ensures { result ≡ judged.is_target (table_of rules) net.now.state item.node act item.wish target }
 {
-    made.node == item.node && made.act == act && is_target(net, rules, act, item, made.target)
+    match target {
+        Some(w) => takes_target(act) && suits(net, rules, act, item, w),
+        None => !takes_target(act),
+    }
+}
+
+/// Whether the item's node may point at `w`: its rule allows `w`, and `w` is the wish, if any.
+fn suits(net: &NetState, rules: RuleSet, act: Act, item: Item, w: Node) -> bool
+    requires { IsRuled (table_of rules) net.now.state item act }
+    ensures { result ≡ ((table_of rules).allowed net.now.state item.node act w && judged.suits_wish item.wish w) }
+{
+    match item.wish {
+        Some(x) => x == w,
+        None => is_allowed(net, rules, item.node, act, w),
+    }
+}
+
+fn takes_target(act: Act) -> bool
+    ensures { result ≡ takes_target act }
+{
+    match act {
+        Act::Marry | Act::Seduce => true,
+        Act::Update | Act::Abandon => false,
+    }
 }
 
 fn fits_daemon(rules: RuleSet, moves: &[Moved]) -> bool

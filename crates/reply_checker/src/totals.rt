@@ -1,6 +1,6 @@
 //! The totals that questions need, updated by looks at the names that are touched or due.
 
-ghost use Rattle.std.specs.Prelude.{◌≡◌, ◌+◌, ◌*◌, ◌<◌, ◌≤◌, ℕ, true, false, length, slice_set, IsTrue, None, cond};
+ghost use Rattle.std.specs.Prelude.{◌≡◌, ◌+◌, ◌*◌, ◌<◌, ◌≤◌, ℕ, true, false, length, IsTrue, None, cond};
 ghost use Rattle.enabled_set.specs.Members.{is_in};
 ghost use Rattle.rule_machine.specs.Network.{linked, present};
 ghost use Rattle.rule_machine.specs.RuleTable as table;
@@ -20,7 +20,6 @@ pub(crate) struct Totals {
     pub(crate) charge: u32,
 }
 
-/// Whether the contribution of `v` depends on neighbour `w`: the pointer is null or at `w`.
 #[inline(always)]
 fn asks(net: &NetState, v: Node, w: Node) -> bool
     requires present { IsTrue (present net.now.state.network v) }
@@ -35,7 +34,6 @@ fn asks(net: &NetState, v: Node, w: Node) -> bool
     }
 }
 
-/// Marks `v` as due, and each neighbour of `v` whose contribution depends on `v`.
 fn mark_around(net: &NetState, v: Node, due: &mut Marks)
     requires within { v ≤ net.now.state.network.size }
     requires places { length due.old ≡ net.now.state.network.size + 1 }
@@ -64,7 +62,6 @@ impl CountedNet {
         }
     }
 
-    /// Updates the contribution of each due name.
     fn look(&mut self)
         ensures kept { (self.new.net.state ≡ self.old.net.state) × (self.new.shares.rules ≡ self.old.shares.rules) }
         ensures touched { self.new.shares.touched ≡ self.old.shares.touched }

@@ -1,6 +1,6 @@
 //! The lines of edges.
 
-ghost use Rattle.std.specs.Prelude.{◌≡◌, ◌++◌, ◌∷◌, [], IsTrue, OnOk, filter, nat_lt};
+ghost use Rattle.std.specs.Prelude.{◌≡◌, ◌++◌, ◌∷◌, [], OnOk, filter, nat_lt};
 ghost use Rattle.std.specs.List.{flat_map};
 ghost use Rattle.rule_machine.specs.Network.{names, present};
 ghost use Rattle.transcript_view.specs.Picture.{edge_line, edge_lines_at, style_text};
@@ -43,20 +43,13 @@ fn put_edges_to(out: &mut Vec<u8>, net: &NetState, v: Node, row: &[Node]) -> Res
     Ok(())
 }
 
-fn put_edges_at(out: &mut Vec<u8>, net: &NetState, v: Node) -> Result<(), Want>
-    requires { IsTrue (present net.now.state.network v) }
-    ensures { OnOk result (out.new.items ≡ out.old.items ++ edge_lines_at net.now.state v) }
-{
-    put_edges_to(out, net, v, net.neighbours(v))
-}
-
 #[tactic(auto, using(crate::proofs::Names::drawn, crate::proofs::Names::left_out))]
 fn put_edges_if_present(out: &mut Vec<u8>, net: &NetState, v: Node) -> Result<(), Want>
     ensures { OnOk result (out.new.items ≡ out.old.items
         ++ flat_map (edge_lines_at net.now.state) (filter (present net.now.state.network) (v ∷ []))) }
 {
     if net.has(v) {
-        return put_edges_at(out, net, v);
+        return put_edges_to(out, net, v, net.neighbours(v));
     }
     Ok(())
 }

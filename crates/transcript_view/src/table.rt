@@ -1,20 +1,12 @@
 //! The table of epochs.
 
 ghost use Rattle.std.specs.Prelude.{◌≡◌, ◌++◌, IfOk, OnOk};
-ghost use Rattle.line_text.specs.Words.{number_text};
 ghost use Rattle.transcript_view.specs.Table.{cell, cost_text, epoch_row, epoch_table, start_cell};
 
+use crate::words::put_number;
 use auditor::{CostedEpoch, Epochs};
-use itoa::Buffer;
 use rule_machine::{EpochStart, RuleSet, Want};
 use std::alloc::Global;
-
-fn put_number(out: &mut Vec<u8>, number: u64) -> Result<(), Want>
-    ensures { OnOk result (out.new.items ≡ out.old.items ++ number_text number) }
-{
-    let mut digits = Buffer::new();
-    out.extend_from_slice(digits.format(number).as_bytes())
-}
 
 fn put_cell(out: &mut Vec<u8>, number: u64) -> Result<(), Want>
     ensures { OnOk result (out.new.items ≡ out.old.items ++ cell number) }

@@ -1,4 +1,4 @@
-use Rattle.auditor.proofs.Prelude.{◌≡◌, ◌∙◌, ◌≤◌, List, [], None, length, refl, sym, ap, subst, eqb-true, nil_from_length, CostedEpoch, Summary, counted_part}
+use Rattle.auditor.proofs.Prelude.{◌≡◌, ◌∙◌, ◌≤◌, ◌+◌, ℕ, open_at, Epoch, List, [], None, length, refl, sym, ap, subst, eqb-true, nil_from_length, CostedEpoch, Summary, counted_part}
 use Rattle.auditor.proofs.WholeTranscripts.{begun_at, behind_judged, compared_none, first_judged, passed_at, passed_compared, passed_shorter}
 use Rattle.auditor.proofs.EpochBounds.{rows_few}
 use Rattle.auditor.proofs.EpochCosts.{rows_paid}
@@ -13,14 +13,14 @@ loop-rest-init c =
     let replay = c.in-Ok.begun.0 in
     let rest = c.in-Ok.begun.1.now in
     let begins = c.in-Ok.ensures.begins in
-    let row : CostedEpoch = record { epoch = c.open_epoch-epoch.result; cost = None; rounds = 0 } in
+    let row : CostedEpoch = record { epoch = c.present_epoch-epoch.result; cost = None; rounds = 0 } in
     let it = c.in_ok-rounds.rounds in
-    let start = listed_start c.args.bytes.now replay.rules replay.size replay.begun replay.audit rest row it begins.opened c.open_epoch-epoch.ensures.epoch refl refl c.in_ok-rounds.ensures.rounds c.in_ok-rounds.ensures.rules c.in_ok-rounds.ensures.counts in
+    let start = listed_start c.args.bytes.now replay.rules replay.size replay.begun replay.audit rest row it begins.opened (c.present_epoch-epoch.ensures ∙ ap (λ (n : ℕ). open_at replay.begun (record { state = replay.audit.state; spent = n })) c.spent.ensures.spent) refl refl c.in_ok-rounds.ensures.rounds c.in_ok-rounds.ensures.rules c.in_ok-rounds.ensures.counts in
     record {
       at = begun_at c.args.bytes.now replay rest begins;
       compared = compared_none replay rest begins.unwanted begins.none_same;
       listed = subst (λ (past : List CostedEpoch). IsListed c.args.bytes.now replay.rules replay.size replay.audit rest past row it) (sym c.new-list.ensures.items) start;
-      few = c.open_epoch-epoch.ensures.few;
+      few = subst (λ (e : Epoch). e.moves ≤ replay.audit.counted.moves + 4294967295) (sym c.present_epoch-epoch.ensures) c.spent.ensures.few;
     }
 
 pub returns-in-Err-advance_counted-clause-fault : goal.returns-in-Err-advance_counted-clause-fault

@@ -4,6 +4,7 @@ use Rattle.auditor.proofs.ReadOpenings.{base_opened, breaks_few, edges_rise}
 use Rattle.auditor.proofs.NextParts.{broken_more, cut_base_start, nowhere_more}
 use Rattle.auditor.proofs.Windows.{base_few}
 use Rattle.auditor.proofs.transcript_cursor.TranscriptCursor.at_base.Goals as goal
+use Rattle.auditor.proofs.transcript_cursor.TranscriptCursor.at_base.Goals.{else-line_feeds-number-via-then-line_feeds-number+else-is_short, else-line_feeds-number-via-else-line_feeds-number}
 
 pub returns-then-is_short-clause-begins : goal.returns-then-is_short-clause-begins
 returns-then-is_short-clause-begins c =
@@ -17,20 +18,6 @@ is_short-requires c =
     let same = c.in-Err-BadLine.number-is in
     grind arith
 
-pub returns-then-line_feeds-number-clause-fault : goal.returns-then-line_feeds-number-clause-fault
-returns-then-line_feeds-number-clause-fault c more =
-    let bad = c.in-Err-BadLine in
-    let short : line_feeds c.args.rest.now < bad.number = subst (λ (n : ℕ). n < bad.number) c.line_feeds.ensures (subst (λ (n : ℕ). c.line_feeds.result < n) bad.number-is c.if-line_feeds-number.true) in
-    let long : 128 * bad.number + 128 ≤ length c.args.rest.now = subst (λ (n : ℕ). 128 * n + 128 ≤ length c.args.rest.now) bad.number-is (c.is_short.ensures c.if-is_short.false) in
-    subst (λ (n : ℕ). IsMetFirst (c.args.text.now ++ more) (BadBase (n + 1))) (sym bad.number-is)
-    (base_too_long c.args.text.now c.args.rest.now c.args.rules c.args.size bad.number c.requires.few c.requires.first (bad.ensures.bad bad.number bad.field-0-is) short long more)
-
-pub overflow_add-result-in-Err-BadLine : goal.overflow_add-result-in-Err-BadLine
-overflow_add-result-in-Err-BadLine c =
-    let few = breaks_few c.args.rest.now c.in-Err-BadLine.number (c.in-Err-BadLine.ensures.bad c.in-Err-BadLine.number c.in-Err-BadLine.field-0-is) in
-    let same = c.in-Err-BadLine.number-is in
-    grind arith
-
 pub overflow_add-result : goal.overflow_add-result
 overflow_add-result c =
     let few = breaks_few c.args.rest.now c.in-Err-BadLine.number (c.in-Err-BadLine.ensures.bad c.in-Err-BadLine.number c.in-Err-BadLine.field-0-is) in
@@ -40,9 +27,17 @@ overflow_add-result c =
 pub returns-in-Err-BadLine-clause-fault : goal.returns-in-Err-BadLine-clause-fault
 returns-in-Err-BadLine-clause-fault c more =
     let bad = c.in-Err-BadLine in
-    let whole : bad.number ≤ line_feeds c.args.rest.now = subst (λ (n : ℕ). bad.number ≤ n) c.line_feeds.ensures (subst (λ (n : ℕ). n ≤ c.line_feeds.result) bad.number-is c.if-line_feeds-number.false) in
+    let breaks = bad.ensures.bad bad.number bad.field-0-is in
     subst (λ (n : ℕ). IsMetFirst (c.args.text.now ++ more) (BadBase (n + 1))) (sym bad.number-is)
-    (broken_more c.args.text.now c.args.rest.now more c.args.rules c.args.size bad.number c.requires.few c.requires.first (bad.ensures.bad bad.number bad.field-0-is) whole)
+    (elim c.else-line_feeds-number.branch [
+      | else-line_feeds-number-via-then-line_feeds-number+else-is_short w ↦
+          let short : line_feeds c.args.rest.now < bad.number = subst (λ (n : ℕ). n < bad.number) c.line_feeds.ensures (subst (λ (n : ℕ). c.line_feeds.result < n) bad.number-is w.if-line_feeds-number.true) in
+          let long : 128 * bad.number + 128 ≤ length c.args.rest.now = subst (λ (n : ℕ). 128 * n + 128 ≤ length c.args.rest.now) bad.number-is (w.is_short.ensures w.if-is_short.false) in
+          base_too_long c.args.text.now c.args.rest.now c.args.rules c.args.size bad.number c.requires.few c.requires.first breaks short long more
+      | else-line_feeds-number-via-else-line_feeds-number w ↦
+          let whole : bad.number ≤ line_feeds c.args.rest.now = subst (λ (n : ℕ). bad.number ≤ n) c.line_feeds.ensures (subst (λ (n : ℕ). n ≤ c.line_feeds.result) bad.number-is w.if-line_feeds-number.false) in
+          broken_more c.args.text.now c.args.rest.now more c.args.rules c.args.size bad.number c.requires.few c.requires.first breaks whole
+    ])
 
 pub returns-then-base-gt-MAX_ENTRIES-clause-fault : goal.returns-then-base-gt-MAX_ENTRIES-clause-fault
 returns-then-base-gt-MAX_ENTRIES-clause-fault c =

@@ -15,13 +15,13 @@ overflow_cast-result c =
     let same = c.into_net-net.ensures ∙ c.into_judge.ensures in
     let edges = c.edges.ensures.count ∙ ap (λ (s : State). edge_count s.network) same in
     let nodes = c.nodes.ensures.count ∙ ap (λ (s : State). node_count s.network) same in
-    omega (arith, bounded, c.spent-spent.ensures, edges, nodes, c.nodes.ensures.few, c.edges.ensures.few)
+    omega (arith, bounded, c.spent-spent.ensures.spent, edges, nodes, c.nodes.ensures.few, c.edges.ensures.few)
 
 pub returns-clause-ended : goal.returns-clause-ended
 returns-clause-ended c bytes at =
     end_is bytes c.args.self _ (record {
       rules = refl;
-      moment = moment_is _ _ _ _ _ _ (c.into_net-net.ensures ∙ c.into_judge.ensures) c.spent-spent.ensures c.number-number.ensures;
+      moment = moment_is _ _ _ _ _ _ (c.into_net-net.ensures ∙ c.into_judge.ensures) c.spent-spent.ensures.spent c.number-number.ensures;
       summary = c.counted-summary.ensures.counted;
     }) at
 
@@ -31,7 +31,7 @@ returns-clause-goes_on c =
     let end : TranscriptEnd = record { rules = self.rules; summary = c.counted-summary.result; number = c.number-number.result; spent = c.spent-spent.result; net = c.into_net-net.result } in
     let is : IsEndOf self end = record {
       rules = refl;
-      moment = moment_is _ _ _ _ _ _ (c.into_net-net.ensures ∙ c.into_judge.ensures) c.spent-spent.ensures c.number-number.ensures;
+      moment = moment_is _ _ _ _ _ _ (c.into_net-net.ensures ∙ c.into_judge.ensures) c.spent-spent.ensures.spent c.number-number.ensures;
       summary = c.counted-summary.ensures.counted;
     } in
     record {
