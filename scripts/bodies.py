@@ -56,7 +56,8 @@ def without_parameters(head: str) -> str:
 
 def holder_of(head: str, module: str, modules: Mapping[str, str]) -> str:
     """The path of the members of an `impl` or a trait: a type's own functions have the type's path, a
-    trait's for a type the module of the `impl`, under both names."""
+    trait's for a type the module of the `impl`, under both names; the type's arguments belong to its name if
+    the `impl` has no parameters."""
     if not head.startswith("impl"):
         return joined(module, re.findall(r"trait (\w+)", head)[0])
     what = re.split(r" where\b| \{$", without_parameters(head))[0]
@@ -65,7 +66,10 @@ def holder_of(head: str, module: str, modules: Mapping[str, str]) -> str:
         words = words_in(owner)
         name = f"Tuple{len(words)}{''.join(words)}"
     else:
-        name = words_in(owner.partition("<")[0])[-1]
+        plain, _, arguments = owner.partition("<")
+        name = words_in(plain)[-1]
+        if trait and head.startswith("impl "):
+            name += "".join(words_in(arguments))
     if not trait:
         return joined(modules.get(name, module), name)
     own, _, parameters = trait.partition("<")

@@ -1,5 +1,6 @@
 -- Fields: numbers after their names.
 use Rattle.entry_grammar.proofs.Prelude.{◌≡◌, ◌≤◌, ℕ, List, [], ◌∷◌, ◌++◌, Option, None, Some, drop, get_or, refl, sym, ap, ap₂, ◌∙◌, arith, codes, IsInRange, AllByRecursion, append_cancel_left, Counts, number_text, spaced, joined_texts, IsCountValue, IsCounts, counts_text, field_text, fields_of, ParsesAs, NoDigit, IsReadBack, Undigited, after_word, for_fewer, nothing_ends, number_back, IsFree, CutAt, FieldThen}
+use Rattle.std.specs.Prelude.{MatchOption}
 use Rattle.entry_grammar.proofs.Free.{cons_parts, free_append, free_number}
 
 -- a field is cut at the space after it
@@ -71,7 +72,7 @@ counts_once x y f g e =
     (fields_once (codes "nodes=", x.nodes) (codes "nodes=", y.nodes) (drop 1 (fields_of x)) (drop 1 (fields_of y)) (refl, (refl, (refl, (refl, (refl, (refl, tt)))))) (f.0, (f.1, (f.2, (f.3, (f.4, (f.5, tt))))))
     (g.0, (g.1, (g.2, (g.3, (g.4, (g.5, tt)))))) e)
 
--- if none was found there is none to be found
-pub none_read : (bytes : List ℕ) (r : Option Counts) → r ≡ None → ((c : Counts) → IsCounts c → bytes ≡ counts_text c → ⊥) → ParsesAs IsCounts counts_text bytes r
-none_read bytes None e none = none
-none_read bytes (Some c) e none = cc
+-- what a `?` returns if nothing was found
+pub none_read : {X A : Type 0} (P : X → Type 0) (found : Option X) → found ≡ None → A → MatchOption found A P
+none_read P None e none = none
+none_read P (Some x) e none = absurd cc

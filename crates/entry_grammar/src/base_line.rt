@@ -47,34 +47,20 @@ pub enum BaseLine {
 fn read_head(bytes: &[u8]) -> Option<(RuleSet, u32)>
     ensures { ReadsTwo (λ rules size. size ≤ 65535) rules_text bytes.now result }
 {
-    let Some((word, size)) = cut(bytes, b' ') else {
-        return None;
-    };
-    let Some(rules) = read_rules(word) else {
-        return None;
-    };
-    let Some(size) = read_size(size) else {
-        return None;
-    };
+    let (word, size) = cut(bytes, b' ')?;
+    let rules = read_rules(word)?;
+    let size = read_size(size)?;
     Some((rules, size))
 }
 
 // Reads the four numbers of a base; each number except the first comes after a name.
-fn read_base(bytes: &[u8]) -> Option<BaseNumbers>
+fn read_numbers(bytes: &[u8]) -> Option<BaseNumbers>
     ensures { ParsesAs AreCounts (λ q. joined_texts field_text (base_fields q.number q.spent q.nodes q.edges)) bytes.now result }
 {
-    let Some((number, rest)) = read_next(bytes, b"") else {
-        return None;
-    };
-    let Some((spent, rest)) = read_next(rest, b"spent=") else {
-        return None;
-    };
-    let Some((nodes, rest)) = read_next(rest, b"nodes=") else {
-        return None;
-    };
-    let Some(edges) = read_field(rest, b"edges=") else {
-        return None;
-    };
+    let (number, rest) = read_next(bytes, b"")?;
+    let (spent, rest) = read_next(rest, b"spent=")?;
+    let (nodes, rest) = read_next(rest, b"nodes=")?;
+    let edges = read_field(rest, b"edges=")?;
     Some(BaseNumbers {
         number,
         spent,
@@ -86,15 +72,9 @@ fn read_base(bytes: &[u8]) -> Option<BaseNumbers>
 fn read_registers(bytes: &[u8]) -> Option<(Option<Node>, bool)>
     ensures { ReadsTwo (λ target flag. IfSome target IsName) registers_text bytes.now result }
 {
-    let Some((target, flag)) = cut(bytes, b' ') else {
-        return None;
-    };
-    let Some(target) = read_target(target) else {
-        return None;
-    };
-    let Some(flag) = read_bool(flag) else {
-        return None;
-    };
+    let (pointer, value) = cut(bytes, b' ')?;
+    let target = read_target(pointer)?;
+    let flag = read_bool(value)?;
     Some((target, flag))
 }
 
@@ -104,9 +84,7 @@ fn read_place(bytes: &[u8]) -> Option<(Node, Option<Node>, bool)>
     let Some((node, rest)) = read_marked(bytes, b' ') else {
         return None;
     };
-    let Some((target, flag)) = read_registers(rest) else {
-        return None;
-    };
+    let (target, flag) = read_registers(rest)?;
     Some((node, target, flag))
 }
 
@@ -116,29 +94,19 @@ fn find_base_line(line: &[u8]) -> Option<BaseLine>
         (λ found. SpellsBaseLine line.now found) }
 {
     if let Some(rest) = after(line, b"node ") {
-        let Some((node, target, flag)) = read_place(rest) else {
-            return None;
-        };
+        let (node, target, flag) = read_place(rest)?;
         return Some(BaseLine::Place(node, target, flag));
     }
     if let Some(rest) = after(line, b"edge ") {
-        let Some(edge) = read_ends(rest, b' ') else {
-            return None;
-        };
+        let edge = read_ends(rest, b' ')?;
         return Some(BaseLine::Link(edge));
     }
     if let Some(rest) = after(line, b"base ") {
-        let Some(numbers) = read_base(rest) else {
-            return None;
-        };
+        let numbers = read_numbers(rest)?;
         return Some(BaseLine::Base(numbers));
     }
-    let Some(rest) = after(line, b"matching2 ") else {
-        return None;
-    };
-    let Some((rules, size)) = read_head(rest) else {
-        return None;
-    };
+    let rest = after(line, b"matching2 ")?;
+    let (rules, size) = read_head(rest)?;
     Some(BaseLine::Head(rules, size))
 }
 

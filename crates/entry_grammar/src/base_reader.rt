@@ -24,9 +24,7 @@ fn next_line(bytes: &[u8]) -> Option<(BaseLine, &[u8])>
         ((line : Line) (more : List ℕ) → Starts IsBaseLine base_line_text bytes.now line more → ⊥)
         (λ found. Starts IsBaseLine base_line_text bytes.now found.0 found.1.now) }
 {
-    let Some((text, rest)) = split_line(bytes) else {
-        return None;
-    };
+    let (text, rest) = split_line(bytes)?;
     match read_base_line(text) {
         Ok(line) => Some((line, rest)),
         Err(_) => None,
@@ -50,9 +48,7 @@ fn next_numbers(bytes: &[u8]) -> Option<(BaseNumbers, &[u8])>
     let Some((line, rest)) = next_line(bytes) else {
         return None;
     };
-    let Some(numbers) = numbers_of(line) else {
-        return None;
-    };
+    let numbers = numbers_of(line)?;
     Some((numbers, rest))
 }
 
@@ -86,9 +82,7 @@ fn next_node(bytes: &[u8], last: u32) -> Option<(NodeRecord, &[u8])>
     let Some((line, rest)) = next_line(bytes) else {
         return None;
     };
-    let Some(place) = place_of(line) else {
-        return None;
-    };
+    let place = place_of(line)?;
     if place.node.name() <= last {
         return None;
     }
@@ -117,9 +111,7 @@ fn next_edge(bytes: &[u8], last: (u32, u32)) -> Option<(Edge, &[u8])>
     let Some((line, rest)) = next_line(bytes) else {
         return None;
     };
-    let Some(edge) = edge_of(line) else {
-        return None;
-    };
+    let edge = edge_of(line)?;
     if !is_above(last, edge) {
         return None;
     }

@@ -13,18 +13,14 @@ use rule_machine::Counts;
 pub(crate) fn read_up_to(bytes: &[u8], most: u32) -> Option<u32>
     ensures { ParsesAs (λ n. n ≤ most) number_text bytes.now result }
 {
-    let Some(number) = read_number(bytes, u64::from(most)) else {
-        return None;
-    };
+    let number = read_number(bytes, u64::from(most))?;
     Some(number as u32)
 }
 
 pub(crate) fn read_field(bytes: &[u8], name: &[u8]) -> Option<u32>
     ensures { ParsesAs IsCountValue (λ number. field_text (name.now, number)) bytes.now result }
 {
-    let Some(digits) = after(bytes, name) else {
-        return None;
-    };
+    let digits = after(bytes, name)?;
     read_up_to(digits, u32::MAX)
 }
 
@@ -34,12 +30,8 @@ pub(crate) fn read_next<'a>(bytes: &'a [u8], name: &[u8]) -> Option<(u32, &'a [u
         ((number : ℕ) (rest : List ℕ) → FieldThen bytes.now name.now number rest → ⊥)
         (λ found. FieldThen bytes.now name.now found.0 found.1.now) }
 {
-    let Some((field, rest)) = cut(bytes, b' ') else {
-        return None;
-    };
-    let Some(number) = read_field(field, name) else {
-        return None;
-    };
+    let (field, rest) = cut(bytes, b' ')?;
+    let number = read_field(field, name)?;
     Some((number, rest))
 }
 

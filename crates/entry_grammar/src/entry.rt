@@ -22,21 +22,11 @@ fn parts(line: &[u8]) -> Option<(u32, &[u8], &[u8])>
         ((number : ℕ) (event : List ℕ) (reply : List ℕ) → number < 100000000 → PartsOf line.now (number_text number) event reply → ⊥)
         (λ found. (found.0 < 100000000) × PartsOf line.now (number_text found.0) found.1.now found.2.now) }
 {
-    let Some((number, numbered)) = number_in_front(line) else {
-        return None;
-    };
-    let Some(rest) = behind(numbered, b' ') else {
-        return None;
-    };
-    let Some((asked, answered)) = cut_far(rest, b'=') else {
-        return None;
-    };
-    let Some(event) = before(asked, b" ") else {
-        return None;
-    };
-    let Some(reply) = behind(answered, b' ') else {
-        return None;
-    };
+    let (number, numbered) = number_in_front(line)?;
+    let rest = behind(numbered, b' ')?;
+    let (asked, answered) = cut_far(rest, b'=')?;
+    let event = before(asked, b" ")?;
+    let reply = behind(answered, b' ')?;
     Some((number, event, reply))
 }
 

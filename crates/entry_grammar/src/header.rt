@@ -53,21 +53,15 @@ fn read_sizes(rules: RuleSet, bytes: &[u8]) -> Option<Header>
         (λ header. sizes_text header.names header.present) bytes.now result }
 {
     let Some((names, present)) = cut(bytes, b' ') else {
-        let Some(names) = read_size(bytes) else {
-            return None;
-        };
+        let all = read_size(bytes)?;
         return Some(Header {
             rules,
-            names,
-            present: names,
+            names: all,
+            present: all,
         });
     };
-    let Some(names) = read_size(names) else {
-        return None;
-    };
-    let Some(present) = read_up_to(present, MAX_NAME) else {
-        return None;
-    };
+    let names = read_size(names)?;
+    let present = read_up_to(present, MAX_NAME)?;
     if present >= names {
         return None;
     }
@@ -81,15 +75,9 @@ fn read_sizes(rules: RuleSet, bytes: &[u8]) -> Option<Header>
 fn find_header(line: &[u8]) -> Option<Header>
     ensures { MatchOption result ((header : HeaderRead) → SpellsHeader line.now header → ⊥) (SpellsHeader line.now) }
 {
-    let Some(words) = after(line, b"matching ") else {
-        return None;
-    };
-    let Some((word, sizes)) = cut(words, b' ') else {
-        return None;
-    };
-    let Some(rules) = read_rules(word) else {
-        return None;
-    };
+    let words = after(line, b"matching ")?;
+    let (word, sizes) = cut(words, b' ')?;
+    let rules = read_rules(word)?;
     read_sizes(rules, sizes)
 }
 

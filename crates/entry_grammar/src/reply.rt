@@ -18,15 +18,9 @@ use std::alloc::Global;
 fn read_refusal(bytes: &[u8]) -> Option<Refusal>
     ensures { ParsesAs (λ (refusal : Refusal). ⊤) refusal_words bytes.now result }
 {
-    let Some((number, text)) = cut(bytes, b' ') else {
-        return None;
-    };
-    let Some(number) = read_up_to(number, u32::MAX) else {
-        return None;
-    };
-    let Some(refusal) = Refusal::from_number(number) else {
-        return None;
-    };
+    let (digits, text) = cut(bytes, b' ')?;
+    let number = read_up_to(digits, u32::MAX)?;
+    let refusal = Refusal::from_number(number)?;
     if text != refusal.text().as_bytes() {
         return None;
     }
@@ -40,9 +34,7 @@ fn read_done(bytes: &[u8]) -> Option<Reply>
     if bytes == b"ok".as_slice() {
         return Some(Reply::Accepted);
     }
-    let Some(words) = after(bytes, b"refused ") else {
-        return None;
-    };
+    let words = after(bytes, b"refused ")?;
     read_refusal(words).map(|refusal| Reply::Refused(refusal))
 }
 
@@ -64,9 +56,7 @@ fn read_shown(bytes: &[u8]) -> Option<Reply>
     ensures { ReadsReply is_shown bytes.now result }
 {
     if let Some(words) = after(bytes, b"refused ") {
-        let Some(refusal) = read_refusal(words) else {
-            return None;
-        };
+        let refusal = read_refusal(words)?;
         return Some(Reply::Refused(refusal));
     }
     read_target(bytes).map(|target| Reply::Shown(target))
@@ -89,9 +79,6 @@ pub fn read_reply(alloc: Global, event: &Event, bytes: &[u8]) -> Result<Option<R
         | Event::Point(..)
         | Event::Flag(..)
         | Event::Join(_)
-        | Event::Leave(_) => {
-            let reply = read_done(bytes);
-            Ok(reply)
-        }
+        | Event::Leave(_) => Ok(read_done(bytes)),
     }
 }

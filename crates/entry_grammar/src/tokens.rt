@@ -25,9 +25,7 @@ pub(crate) fn read_marked(bytes: &[u8], mark: u8) -> Option<(Node, &[u8])>
     let Some((node, marked)) = read_name(bytes) else {
         return None;
     };
-    let Some(rest) = behind(marked, mark) else {
-        return None;
-    };
+    let rest = behind(marked, mark)?;
     Some((node, rest))
 }
 
@@ -67,12 +65,8 @@ fn read_act(bytes: &[u8]) -> Option<(Act, &[u8])>
         ((act : Act) (rest : List ℕ) → bytes.now ≡ act_word act ++ rest → ⊥)
         (λ found. bytes.now ≡ act_word found.0 ++ found.1.now) }
 {
-    let Some(act) = act_with(bytes.get(0).copied().unwrap_or(0)) else {
-        return None;
-    };
-    let Some(rest) = after_act(bytes, act) else {
-        return None;
-    };
+    let act = act_with(bytes.get(0).copied().unwrap_or(0))?;
+    let rest = after_act(bytes, act)?;
     Some((act, rest))
 }
 
@@ -82,9 +76,7 @@ fn read_deed(bytes: &[u8]) -> Option<(Act, Option<Node>, &[u8])>
         ((act : Act) (target : Option ℕ) (rest : List ℕ) → DeedThen bytes.now act target rest → ⊥)
         (λ found. DeedThen bytes.now found.0 found.1 found.2.now) }
 {
-    let Some((act, marked)) = read_act(bytes) else {
-        return None;
-    };
+    let (act, marked) = read_act(bytes)?;
     let Some(name) = behind(marked, b'>') else {
         if !ends(marked) {
             return None;
@@ -117,9 +109,7 @@ fn read_pair(bytes: &[u8], mark: u8) -> Option<(Edge, &[u8])>
     if low >= high {
         return None;
     }
-    let Some(pair) = Edge::new(low, high) else {
-        return None;
-    };
+    let pair = Edge::new(low, high)?;
     Some((pair, rest))
 }
 
@@ -163,9 +153,7 @@ impl Token for (Node, Act) {
         let Some((node, word)) = read_marked(bytes, b':') else {
             return None;
         };
-        let Some((act, rest)) = read_act(word) else {
-            return None;
-        };
+        let (act, rest) = read_act(word)?;
         if !ends(rest) {
             return None;
         }

@@ -12,10 +12,8 @@
 #![tactic(auto)]
 
 mod entry;
-mod events;
+mod equality;
 mod kinds;
-mod replies;
 
 pub use entry::{Entry, MAX_ENTRIES};
-pub use events::same_event;
-pub use replies::same_reply;
+pub use equality::{same_event, same_reply};

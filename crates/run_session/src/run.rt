@@ -17,7 +17,7 @@ use crate::{LineError, read_command};
 use line_text::{put_base, put_header};
 use rule_machine::{Event, Reply, RuleSet, Rules, Want};
 use script_text::{Command, Turns};
-use seeded_turns::{DaemonTurns, EventSource, FaultTurns};
+use seeded_turns::{EventSource, daemon_of_seed, injector_of_seed};
 use std::alloc::{AllocError, Global};
 use step_log::{RecordFault, Recorder};
 
@@ -141,7 +141,7 @@ impl<R: Rules> Run<R> {
         ensures limit { self.new.recorder.limit ≡ self.old.recorder.limit }
     {
         self.has_state();
-        let mut daemon = DaemonTurns::new(alloc, turns.seed);
+        let mut daemon = daemon_of_seed(alloc, turns.seed);
         self.take_turns(&mut daemon, turns.count)?;
         Ok(())
     }
@@ -154,7 +154,7 @@ impl<R: Rules> Run<R> {
         ensures ends { TurnsEnd drawn_fault R.table self.old.recorder.limit turns.count (seeded_stream turns.seed) (progress_of self.old) (progress_of self.new) result }
         ensures limit { self.new.recorder.limit ≡ self.old.recorder.limit }
     {
-        let mut injector = FaultTurns::new(turns.seed);
+        let mut injector = injector_of_seed(turns.seed);
         self.take_turns(&mut injector, turns.count)?;
         Ok(())
     }

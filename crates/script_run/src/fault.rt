@@ -56,10 +56,7 @@ impl From<RecordFault> for RunFault {
     ghost from_gives = { λ error fault. fault ≡ fault_of (Record error) };
 
     fn from(error: RecordFault) -> RunFault {
-        match error {
-            RecordFault::LogFull => RunFault::LogFull,
-            RecordFault::Memory => RunFault::Memory,
-        }
+        RunFault::from(LineError::Record(error))
     }
 }
 

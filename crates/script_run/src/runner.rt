@@ -20,7 +20,7 @@ use byte_streams::{CountingReader, FailStopWriter, chunk_of};
 use rule_machine::{Event, Rules, Want};
 use run_session::{Run as LineRun, read_command};
 use script_text::Command;
-use seeded_turns::{DaemonTurns, FaultTurns};
+use seeded_turns::{daemon_of_seed, injector_of_seed};
 use std::alloc::Global;
 use std::io::{Read, Write};
 use std::mem;
@@ -95,11 +95,11 @@ impl<R: Rules + Sync> Run<R> {
     {
         match command {
             Command::Drive(turns) => {
-                let mut daemon = DaemonTurns::new(alloc, turns.seed);
+                let mut daemon = daemon_of_seed(alloc, turns.seed);
                 self.take_turns(&mut daemon, turns.count, writer)
             }
             Command::Scramble(turns) => {
-                let mut injector = FaultTurns::new(turns.seed);
+                let mut injector = injector_of_seed(turns.seed);
                 self.take_turns(&mut injector, turns.count, writer)
             }
             _ => Ok(self.follow_at_once(rt, alloc, command, line)?),

@@ -1,5 +1,5 @@
 -- Texts that were read up to a line that is too long to be a command.
-use Rattle.script_text.proofs.Prelude.{◌≡◌, ◌∙◌, ℕ, ◌+◌, ◌<◌, ◌≤◌, ◌==◌, Bool, true, false, if◌then◌else◌, inl, inr, List, [], ◌∷◌, ◌++◌, length, refl, sym, ap, subst, append_assoc, arith, length-append, lines_of, onto_first, IsLine, ScriptLine, LinesHold, TextHolds, IsGoodLine, IsBadLine, FirstBad, EndsInLine, IsReadSoFar, Option, None, Some}
+use Rattle.script_text.proofs.Prelude.{◌≡◌, ◌∙◌, ℕ, ◌+◌, ◌<◌, ◌≤◌, ◌==◌, Bool, true, false, if◌then◌else◌, inl, inr, List, [], ◌∷◌, ◌++◌, length, refl, sym, ap, subst, append_assoc, arith, length-append, lines_of, onto_first, IsLine, ScriptLine, LinesHold, TextHolds, IsBadLine, FirstBad, EndsInLine, IsReadSoFar, IsReadUntil, Option, None, Some}
 use Rattle.std.proofs.Common.{take, drop, Result, Ok, Err, IfOk, IfErr}
 use Rattle.std.proofs.KnownBytes.{Consumes-trans, Consumes-whole}
 use Rattle.std.proofs.Math.Seq.{take-append_seam}
@@ -33,9 +33,9 @@ begun_more text piece begun free (front, line, is, own, long) = (
 
 -- ---- what a read gave
 
-pub few_after : (begun len after : ℕ) (piece : List ℕ) → begun ≤ 1048576 → len ≤ 65536 → after ≤ begun + length (take len piece) → after ≤ 1114112
-few_after begun len after piece few most grown =
-    let taken : length (take len piece) ≤ 65536 = taken_few len piece most in
+pub few_after : (most begun len after : ℕ) (piece : List ℕ) → begun ≤ most → len ≤ 65536 → after ≤ begun + length (take len piece) → after ≤ most + 65536
+few_after most begun len after piece few short grown =
+    let taken : length (take len piece) ≤ 65536 = taken_few len piece short in
     omega (arith, few, grown, taken)
   where
     taken_few : (n : ℕ) (l : List ℕ) → n ≤ 65536 → length (take n l) ≤ 65536
@@ -49,17 +49,17 @@ consumed_more a b c read given piece n before same now =
     Consumes-trans a b c read (take n piece) before (subst (λ (l : List ℕ). Consumes b c (take n l)) same now)
 
 -- all was read
-pub read_to_end : (a b c : Option (List ℕ)) (text given : List ℕ) (n : ℕ) → Consumes a b text → n ≡ 0 → Consumes b c (take n given) → IsAtEnd c → IfSome a (λ all. IsReadSoFar all text)
-read_to_end a b c text given n before none now end =
+pub read_to_end : (most : ℕ) (a b c : Option (List ℕ)) (text given : List ℕ) (n : ℕ) → Consumes a b text → n ≡ 0 → Consumes b c (take n given) → IsAtEnd c → IfSome a (λ all. IsReadUntil most all text)
+read_to_end most a b c text given n before none now end =
     let nothing : Consumes b c [] = subst (λ (k : ℕ). Consumes b c (take k given)) none now in
     let whole : Consumes a c text = subst (Consumes a c) (append-nil text) (Consumes-trans a b c text [] before nothing) in
-    Consumes-whole a c text (λ all. IsReadSoFar all text) whole end (inl refl)
+    Consumes-whole a c text (λ all. IsReadUntil most all text) whole end (inl refl)
 
 -- the last line is too long
-pub read_far : (a b : Option (List ℕ)) (text : List ℕ) (begun : ℕ) → Consumes a b text → EndsInLine text begun → 1048576 < begun → IfSome a (λ all. IsReadSoFar all text)
-read_far None b text begun read ends far = tt
-read_far (Some all) None text begun read ends far = absurd read
-read_far (Some all) (Some more) text begun read ends far = inr (more, begun, read, ends, far)
+pub read_far : (most : ℕ) (a b : Option (List ℕ)) (text : List ℕ) (begun : ℕ) → Consumes a b text → EndsInLine text begun → most < begun → IfSome a (λ all. IsReadUntil most all text)
+read_far most None b text begun read ends far = tt
+read_far most (Some all) None text begun read ends far = absurd read
+read_far most (Some all) (Some more) text begun read ends far = inr (more, begun, read, ends, far)
 
 -- ---- the lines of the text, and those of all of it
 
@@ -141,11 +141,6 @@ cut_of all text more begun is (front, line, ends, free, long) far =
     (subst (λ (l : List ℕ). Cut (lines_of (front ++ line)) (lines_of l)) (sym whole) (cut_text front line more free (omega (arith, far, long))))
 
 -- ---- what the text holds
-
--- a line that is too long is not good
-long_not_good : (line : List ℕ) → 1048576 < length line → IsGoodLine line → ⊥
-long_not_good [] far good = omega (arith, far)
-long_not_good (b ∷ line) far good = long_says_nothing (b ∷ line) far good.0 good.1
 
 long_bad : (line : List ℕ) → 1048576 < length line → IsBadLine line
 long_bad line far = (λ e. omega (arith, far, ap length e), long_says_nothing line far)

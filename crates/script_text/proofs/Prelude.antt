@@ -40,7 +40,7 @@ pub use Rattle.seeded_turns.specs.DrawnEvents.{Draws, seeded_stream, drawn_step,
 pub use Rattle.script_text.specs.Command.{IsTurns, IsCommand, turns_text, command_text, SaysNothing, Says}
 pub use Rattle.script_text.specs.Readers.{AllHold, FirstBadScript}
 pub use Rattle.script_text.specs.Script.{lines_of, onto_first, Progress, AppendsEntry, TurnDoes, TurnsDo, CommandDoes, LineDoes, LinesDo, IsBadLine}
-pub use Rattle.script_text.specs.Texts.{LineHolds, LinesHold, IsGoodLine, FirstBad, TextHolds, EndsInLine, IsReadSoFar}
+pub use Rattle.script_text.specs.Texts.{LineHolds, LinesHold, IsGoodLine, FirstBad, TextHolds, EndsInLine, IsReadSoFar, IsReadUntil}
 pub use Rattle.script_text.specs.declared.command.Command.{Command}
 pub use Rattle.script_text.specs.declared.command.Command.TheVariants.{Tell, Drive, Scramble, Checkpoint}
 pub use Rattle.script_text.specs.declared.command.Turns.{Turns}

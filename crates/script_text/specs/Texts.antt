@@ -58,7 +58,11 @@ IsTextFault script text Memory = Unit {0}
 abbrev pub EndsInLine : List ℕ → ℕ → Type 0
 EndsInLine text begun = (front : List ℕ) × (line : List ℕ) × (text ≡ front ++ line) × IsLine line × (length line ≡ begun)
 
--- all of the text was read; or its beginning was, which ends inside a line that is too long to be a command
+-- all of the text was read; or its beginning was, which ends inside a line of more than `most` bytes
+abbrev pub IsReadUntil : ℕ → List ℕ → List ℕ → Type 0
+IsReadUntil most all text =
+    (all ≡ text) ⊎ ((more : List ℕ) × (begun : ℕ) × (all ≡ text ++ more) × EndsInLine text begun × (most < begun))
+
+-- the same, for a line that is too long to be a command
 abbrev pub IsReadSoFar : List ℕ → List ℕ → Type 0
-IsReadSoFar all text =
-    (all ≡ text) ⊎ ((more : List ℕ) × (begun : ℕ) × (all ≡ text ++ more) × EndsInLine text begun × (1048576 < begun))
+IsReadSoFar all text = IsReadUntil 1048576 all text

@@ -30,6 +30,6 @@ pub use fault::TextsFault;
 pub use law::{long_draws_end_silent, long_drives_end_silent, long_line, one_end};
 pub use lines::{MAX_LINE, next_line};
 pub use read::{read_line, read_line_into};
-pub use reading::{MAX_SCRIPTS, read_scripts};
+pub use reading::{MAX_SCRIPTS, read_scripts, read_until_long};
 pub use script::{Script, ScriptLine};
 pub use text::read_text;

@@ -1,8 +1,9 @@
 //! Reading several scripts, each from its own reader.
 
 ghost use Rattle.std.specs.Prelude.{◌<◌, ◌≤◌, ◌+◌, ◌^◌, ◌++◌, ◌↔◌, ℕ, List, length, map, IfOk, IfErr, IsErrOf, IfSome};
+ghost use Rattle.byte_streams.specs.StreamEnds.{IsEnded};
 ghost use Rattle.script_text.specs.declared.fault.TextsFault.TheVariants.{TooManyScripts};
-ghost use Rattle.script_text.specs.Texts.{EndsInLine, IsReadSoFar, TextHolds};
+ghost use Rattle.script_text.specs.Texts.{EndsInLine, IsReadUntil, TextHolds};
 ghost use Rattle.script_text.specs.Readers.{AllHold, IsTextsFault, IsReaderFault};
 
 use crate::{MAX_LINE, Script, TextsFault, read_text};
@@ -25,17 +26,23 @@ fn line_after(begun: usize, piece: &[u8]) -> usize
     }
 }
 
-// The reader's bytes, up to its end or to a line that is too long to be a command.
-fn read_lines<In: Read>(
+/// The reader's bytes, up to its end or into a line of more than `most` bytes.
+///
+/// Reads pieces of 65,536 bytes. Errors: `Read` if a read fails or after 4,294,967,295 reads; `Memory` if
+/// memory runs out.
+pub fn read_until_long<In: Read>(
     alloc: Global,
     reader: &mut CountingReader<In>,
+    most: usize,
 ) -> Result<Vec<u8>, InputFault>
-    ensures { IfSome (In.remaining reader.old.reader) (λ all. IfOk result (λ text. IsReadSoFar all text.items)) }
+    requires { most < 2 ^ 32 }
+    ensures text { IfSome (In.remaining reader.old.reader) (λ all. IfOk result (λ text. IsReadUntil most all text.items)) }
+    ensures unread { IsErrOf result InputFault.Read → IsEnded reader.new.failed reader.new.count }
 {
     let mut text = Vec::new(alloc);
     let mut chunk = chunk_of(alloc)?;
     let mut begun = 0;
-    while begun <= MAX_LINE {
+    while begun <= most {
         let len = reader.read(&mut chunk)?;
         if len == 0 {
             return Ok(text);
@@ -52,7 +59,7 @@ fn read_from<In: Read + Drop>(alloc: Global, number: u32, reader: In) -> Result<
     ensures fault { IfErr result (IsReaderFault number (In.remaining reader)) }
 {
     let mut reader = CountingReader::new(reader);
-    let text = match read_lines(alloc, &mut reader) {
+    let text = match read_until_long(alloc, &mut reader, MAX_LINE) {
         Ok(text) => text,
         Err(InputFault::Read) => return Err(TextsFault::Read),
         Err(InputFault::Memory) => return Err(TextsFault::Memory),

@@ -8,7 +8,7 @@ returns-clause-script g c =
     let known = g.In.Read.remaining in
     let text = c.deref.result.now in
     let read : IfSome (known c.args.reader) (λ all. IsReadSoFar all text) =
-    subst (λ r. IfSome (known r) (λ all. IsReadSoFar all text)) c.new-reader.ensures.reader (subst (λ (t : List ℕ). IfSome (known c.new-reader.result.reader) (λ all. IsReadSoFar all t)) (sym c.deref.ensures.value) c.in-Ok.ensures) in
+    subst (λ r. IfSome (known r) (λ all. IsReadSoFar all text)) c.new-reader.ensures.reader (subst (λ (t : List ℕ). IfSome (known c.new-reader.result.reader) (λ all. IsReadSoFar all t)) (sym c.deref.ensures.value) c.in-Ok.ensures.text) in
     script_read (λ s. s) (known c.args.reader) text c.read_text.result read c.read_text.ensures.script
 
 pub returns-clause-fault : goal.returns-clause-fault
@@ -16,5 +16,5 @@ returns-clause-fault g c =
     let known = g.In.Read.remaining in
     let text = c.deref.result.now in
     let read : IfSome (known c.args.reader) (λ all. IsReadSoFar all text) =
-    subst (λ r. IfSome (known r) (λ all. IsReadSoFar all text)) c.new-reader.ensures.reader (subst (λ (t : List ℕ). IfSome (known c.new-reader.result.reader) (λ all. IsReadSoFar all t)) (sym c.deref.ensures.value) c.in-Ok.ensures) in
+    subst (λ r. IfSome (known r) (λ all. IsReadSoFar all text)) c.new-reader.ensures.reader (subst (λ (t : List ℕ). IfSome (known c.new-reader.result.reader) (λ all. IsReadSoFar all t)) (sym c.deref.ensures.value) c.in-Ok.ensures.text) in
     fault_read c.args.number (known c.args.reader) text c.read_text.result read c.read_text.ensures.fault

@@ -7,14 +7,14 @@ returns-in-Drive-clause-ends g c =
     let run = c.args.self.now.line in
     let after = c.take_turns.new.self.line in
     drive_writes g.R.Rules.table run.recorder.limit c.in-Drive.turns c.args.command.now _ (progress run.rules run.recorder run.text.items) (progress after.rules after.recorder after.text.items)
-    (g.Out.Write.contents c.args.writer.now.writer) (g.Out.Write.contents c.take_turns.new.writer.writer) c.take_turns.result c.new-daemon.ensures c.in-Drive.is c.take_turns.ensures.ends
+    (g.Out.Write.contents c.args.writer.now.writer) (g.Out.Write.contents c.take_turns.new.writer.writer) c.take_turns.result c.daemon_of_seed-daemon.ensures c.in-Drive.is c.take_turns.ensures.ends
 
 pub returns-in-Scramble-clause-ends : goal.returns-in-Scramble-clause-ends
 returns-in-Scramble-clause-ends g c =
     let run = c.args.self.now.line in
     let after = c.take_turns-in-Scramble.new.self.line in
     scramble_writes g.R.Rules.table run.recorder.limit c.in-Scramble.turns c.args.command.now _ (progress run.rules run.recorder run.text.items) (progress after.rules after.recorder after.text.items)
-    (g.Out.Write.contents c.args.writer.now.writer) (g.Out.Write.contents c.take_turns-in-Scramble.new.writer.writer) c.take_turns-in-Scramble.result c.new-injector.ensures c.in-Scramble.is c.take_turns-in-Scramble.ensures.ends
+    (g.Out.Write.contents c.args.writer.now.writer) (g.Out.Write.contents c.take_turns-in-Scramble.new.writer.writer) c.take_turns-in-Scramble.result c.injector_of_seed-injector.ensures c.in-Scramble.is c.take_turns-in-Scramble.ensures.ends
 
 pub returns-in_err-follow_at_once-in_default-clause-ends : goal.returns-in_err-follow_at_once-in_default-clause-ends
 returns-in_err-follow_at_once-in_default-clause-ends g c =
