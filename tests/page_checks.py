@@ -174,7 +174,7 @@ def help_lines(top: pathlib.Path) -> Iterator[Told]:
 def quotes(top: pathlib.Path) -> Iterator[Told]:
     """The mistake in README.md and PROMISES.md: its lines are in the linked file, its clause in the
     source."""
-    sources = [path.read_text(encoding="utf-8") for path in top.glob("crates/locked_net/src/*.rt")]
+    sources = [path.read_text(encoding="utf-8") for path in top.glob("crates/step_log/src/*.rt")]
     for page in (top / "README.md", top / "docs/PROMISES.md"):
         text = page.read_text(encoding="utf-8")
         linked = re.search(r"\]\(([^)]+\.edit)\)", text)

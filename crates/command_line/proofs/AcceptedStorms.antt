@@ -12,7 +12,7 @@ use Rattle.rule_machine.specs.State.{State}
 use Rattle.line_text.specs.BaseText.{base_text}
 use Rattle.line_text.specs.EntryText.{entry_lines}
 use Rattle.step_log.specs.RetainedLogs.{RetainedLog}
-use Rattle.locked_net.specs.declared.call_fault.CallFault.{CallFault}
+use Rattle.locked_net.specs.declared.fault.CallFault.{CallFault}
 use Rattle.script_run.specs.Restarts.{RestartView, options_at}
 use Rattle.script_run.specs.RunOptions.{OptionsView}
 use Rattle.step_log.proofs.ReplyKinds.{nodes_few}

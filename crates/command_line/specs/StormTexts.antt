@@ -9,8 +9,8 @@ use Rattle.auditor.specs.declared.transcript_end.TranscriptEnd.{TranscriptEnd}
 use Rattle.auditor.specs.AcceptedRuns.{IsAccepted}
 use Rattle.auditor.specs.TranscriptEnds.{end_moment}
 use Rattle.step_log.specs.RetainedLogs.{RetainedLog}
-use Rattle.locked_net.specs.declared.call_fault.CallFault.{CallFault}
-use Rattle.locked_net.specs.declared.call_fault.CallFault.TheVariants as call
+use Rattle.locked_net.specs.declared.fault.CallFault.{CallFault}
+use Rattle.locked_net.specs.declared.fault.CallFault.TheVariants as call
 use Rattle.script_text.specs.Readers.{AllHold}
 use Rattle.script_text.specs.declared.script.ScriptLine.{ScriptLine}
 use Rattle.script_run.specs.RunOptions.{OptionsView}

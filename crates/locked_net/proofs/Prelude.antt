@@ -1,16 +1,14 @@
 -- What the proofs of this crate import from the crates below and from its own definitions.
-pub use Rattle.std.proofs.Common.{◌≡◌, ℕ, ◌+◌, ◌<◌, ◌≤◌, ◌⊎◌, ⊎_elim, inl, inr, Bool, true, false, IsTrue, nat_le, slice_index_or, le-leb, List, [], ◌∷◌, ◌++◌, length, fold, Option, None, Some, IfSome, if◌then◌else◌, nat_lt, refl, sym, ap, ◌∙◌, subst, arith, length-append, zero, suc, Result, Ok, Err, OnOk, nat_eq, IfOk, IfErr, IsNone, MatchOption, ◌↔◌, not, ◌&&◌, ◌||◌, get_or, is_some, ◌-◌, OnErr, ◌%◌, cond, take, set, ap₂, append_assoc, drop, min, rules}
+pub use Rattle.std.proofs.Common.{◌≡◌, ℕ, ◌+◌, ◌<◌, ◌≤◌, ◌⊎◌, ⊎_elim, inl, inr, Bool, true, false, IsTrue, nat_le, slice_index_or, le-leb, List, [], ◌∷◌, ◌++◌, length, fold, Option, None, Some, IfSome, if◌then◌else◌, nat_lt, refl, sym, ap, ◌∙◌, subst, arith, length-append, zero, suc, Result, Ok, Err, OnOk, nat_eq, IfOk, IfErr, IsNone, MatchOption, ◌↔◌, not, ◌&&◌, ◌||◌, get_or, is_some, ◌-◌, OnErr, ◌%◌, take, ap₂, append_assoc, drop, min}
 pub use Rattle.std.proofs.Math.Seq.{get_or-append_seam}
-pub use Rattle.std.proofs.lemmas.Bool.{and_from, and_left, and_right, lt-leb, ltb-true, ltb-false, eqb-true, ne_eqb, true≢false, cond-false, le-ltb, cases_lt, cases_eq, cases_order, false≢true}
-pub use Rattle.std.proofs.lemmas.List.{length-replicate, get_or_append_left, get_or-set_same, get_or-set_other, length-set, take_all, append-nil, drop_all, drop_at, nil_from_length, take_at}
+pub use Rattle.std.proofs.lemmas.Bool.{and_from, and_left, and_right, lt-leb, ltb-true, ltb-false, eqb-true, ne_eqb, true≢false, cond-false, le-ltb, cases_lt, false≢true}
+pub use Rattle.std.proofs.lemmas.List.{get_or_append_left, take_all, append-nil, drop_all, drop_at, nil_from_length, take_at}
 pub use Rattle.std.proofs.lemmas.List.Elements.{All-filter, filter_passes, All-nil, All-cons, All-append, All-more}
 pub use Rattle.std.proofs.lemmas.List.Folds.{Any-from_list_any, list_any-append}
-pub use Rattle.std.proofs.lemmas.List.Sums.{sum_by-cons, sum_by-set, sum_by_more, get_or-le-sum_by, count_by-le-length}
-pub use Rattle.std.proofs.lemmas.Option.{same_Some, none-some, slice_get-get_or, slice_get_within, get_or_from_slice_get, slice_get_read}
+pub use Rattle.std.proofs.lemmas.Option.{same_Some, none-some, slice_get-get_or, slice_get_within, get_or_from_slice_get}
 pub use Rattle.std.proofs.lemmas.Result.{IfErr-weaker}
-pub use Rattle.std.specs.List.{slice_get, All, list_any, range_with_len, AllByRecursion, sum_by, count_by}
+pub use Rattle.std.specs.List.{slice_get, All, list_any, range_with_len, AllByRecursion}
 pub use Rattle.std.specs.Option.{IsSomeAnd, option_or}
-pub use Rattle.std.specs.Prelude.{replicate}
 pub use Rattle.daemon.specs.DaemonLaws.{IsLawful, nodes_of}
 pub use Rattle.enabled_set.proofs.Members.{inside}
 pub use Rattle.enabled_set.specs.Members.{members, is_in}
@@ -21,7 +19,6 @@ pub use Rattle.machine_laws.proofs.Runs.{runs_end_in_states, run_add}
 pub use Rattle.machine_laws.proofs.Sizes.{runs_keep_size}
 pub use Rattle.machine_laws.proofs.StatePreservation.{opening_is_state}
 pub use Rattle.rule_engine.proofs.AscendingMoves.{one_least}
-pub use Rattle.rule_engine.specs.DisturbanceReach.{Spares}
 pub use Rattle.rule_machine.specs.Base.{dropped, base_of}
 pub use Rattle.rule_machine.specs.declared.base.Base.{Base}
 pub use Rattle.rule_machine.specs.Least.{least_moves, reply_by, move_in, outcome_of, outcome_at, reply_of, state_after, spent_by}
@@ -39,7 +36,7 @@ pub use Rattle.rule_machine.specs.declared.refusal.Refusal.TheVariants.{UnknownN
 pub use Rattle.rule_machine.specs.declared.reply.Reply.{Reply}
 pub use Rattle.rule_machine.specs.declared.reply.Reply.TheVariants.{Moves}
 pub use Rattle.rule_machine.specs.declared.verdict.Outcome.TheVariants.{Absent}
-pub use Rattle.snapshots.proofs.Fronts.{prefix_self, prefix_trans, prefix_whole}
+pub use Rattle.snapshots.proofs.Fronts.{prefix_trans}
 pub use Rattle.snapshots.proofs.Machine.{run_names, run_pointers}
 pub use Rattle.snapshots.proofs.Rows.{effect_length}
 pub use Rattle.snapshots.proofs.Starts.{start_row, start_here, start_size, row_places}
@@ -49,7 +46,6 @@ pub use Rattle.snapshots.specs.Row.{Row, BoardShape, pointer_in, partner_in, row
 pub use Rattle.snapshots.specs.Starts.{StartsAt}
 pub use Rattle.snapshots.specs.Views.{BoardName, ReaderView, PublishedLog, BoardView}
 pub use Rattle.step_log.proofs.AscendingNumbers.{rising_distinct}
-pub use Rattle.step_log.proofs.HeadlineProof.{upheld}
 pub use Rattle.step_log.specs.JournalViews.{JournalView, kept_of}
 pub use Rattle.step_log.specs.Log.{max_entries}
 pub use Rattle.step_log.specs.RetainedLogs.{RetainedLog, IsRetainedRun, checkpointed, kept_with, last_number, next_entry, next_receipt, moment_in}
@@ -58,20 +54,16 @@ pub use Rattle.locked_net.specs.Calls.{call_fault, checkpoint_fault, ExplainsCal
 pub use Rattle.locked_net.specs.ChosenEvents.{ChoosesStep, ChoosesOn, ClerkTakes, HoldsAll, Refuses, RefusesCheckpoint, RefusesStep}
 pub use Rattle.locked_net.specs.ClerkCalls.{some_of, HeldCall, Admits, AdmitsStep, each, ClerkCall, AddsReceipt}
 pub use Rattle.locked_net.specs.Looks.{IsPublished}
-pub use Rattle.locked_net.specs.Marks.{mark_of, AreReceiptMarks}
-pub use Rattle.locked_net.specs.Nets.{book_of, name_of, setting_of, start_number_of}
+pub use Rattle.locked_net.specs.Nets.{book_of, setting_of}
 pub use Rattle.locked_net.specs.PublishedJournals.{PublishedJournalView, KeepsKey, IsPublishedJournal}
 pub use Rattle.locked_net.specs.ReaderAnswers.{Shows}
-pub use Rattle.locked_net.specs.Receipts.{ClerkView, noted, IsClerk, IsReceiptOf, NotesLast, StandsLastFrom, StandsLast, front_of, seen_by, front_from, RiseAbove, HasNoteOf, IsOfBook, seen_from, base_from, base_number}
+pub use Rattle.locked_net.specs.Receipts.{ClerkView, noted, IsClerk, IsReceiptOf, NotesLast, StandsLastFrom, StandsLast, front_of, seen_by, front_from, RiseAbove, HasNoteOf, IsOfBook, seen_from, base_from}
 pub use Rattle.locked_net.specs.RetainedParts.{IsPartNoted, log_over, IsLogAboveBase, TellsEnd}
 pub use Rattle.locked_net.specs.RoamResults.{AllEnd, AllKeepNotes, IsLoneStep, Roams, AllRoam, RoamResult, MayMeetRoamFault, TakesTurns, AllTakeTurns, BreaksOff, MayEnd, HasOwnNote, EndsOnLog, roam_call_fault, roam_fault, KeepsNote, TakesTurn, MeetsFault}
 pub use Rattle.locked_net.specs.RoamTurns.{mover, lone_items, lone_step, receipts_by, receipts_of_turn, FaultBy, fault_by, fault_of_turn, FaultInTurn}
 pub use Rattle.locked_net.specs.Settings.{Setting, IsLogIn}
 pub use Rattle.locked_net.specs.WholeLogs.{IsWholeLog}
-pub use Rattle.locked_net.specs.Settlements.{receipt_count, entry_count, greatest_base, IsEntryAbove, StandsAt, Settlement, IsEarlierReceipt, Agrees, IsFirstStranger, HasReceiptNumber, Unsettles}
-pub use Rattle.locked_net.specs.declared.call_fault.CallFault.{CallFault}
-pub use Rattle.locked_net.specs.declared.call_fault.CallFault.TheVariants.{Behind, LogFull, Memory}
-pub use Rattle.locked_net.specs.declared.roam_fault.RoamFault.{RoamFault}
-pub use Rattle.locked_net.specs.declared.settle_fault.SettleFault.{SettleFault}
-pub use Rattle.locked_net.specs.declared.settle_fault.SettleFault.TheVariants.{CountDiffers, BaseDiffers, Stranger}
-pub use Rattle.locked_net.specs.declared.step_fault.StepFault.{StepFault}
+pub use Rattle.locked_net.specs.declared.fault.CallFault.{CallFault}
+pub use Rattle.locked_net.specs.declared.fault.CallFault.TheVariants.{Behind, LogFull, Memory}
+pub use Rattle.locked_net.specs.declared.fault.RoamFault.{RoamFault}
+pub use Rattle.locked_net.specs.declared.fault.StepFault.{StepFault}

@@ -39,9 +39,8 @@ end_roams setting shown turns old new (Some fault) broken =
 
 all_roam : (setting : Setting) (turns : ℕ) (olds news : List ClerkView) (fault : Option CallFault) → AllEnd setting turns olds news fault → AllRoam turns olds news
 all_roam setting turns [] [] fault ends = tt
-all_roam setting turns [] (new ∷ news) fault ends = absurd ends
-all_roam setting turns (old ∷ olds) [] fault ends = absurd ends
 all_roam setting turns (old ∷ olds) (new ∷ news) fault (own, others, is, ended, ends) = (end_roams setting ended.shown turns old new own ended.ended, all_roam setting turns olds news others ends)
+all_roam setting turns olds news fault ends = absurd ends
 
 -- ---- the first of them
 
@@ -92,10 +91,9 @@ first_roamed setting turns count whole part new rest fault value size few same e
 -- if there was no fault, each took all its turns
 all_taken : (setting : Setting) (turns : ℕ) (olds news : List ClerkView) (fault : Option CallFault) → fault ≡ None → AllEnd setting turns olds news fault → AllTakeTurns setting turns olds news
 all_taken setting turns [] [] fault none ends = tt
-all_taken setting turns [] (new ∷ news) fault none ends = absurd ends
-all_taken setting turns (old ∷ olds) [] fault none ends = absurd ends
 all_taken setting turns (old ∷ olds) (new ∷ news) fault none (None, others, is, taken, ends) = (taken, all_taken setting turns olds news others (sym is ∙ none) ends)
 all_taken setting turns (old ∷ olds) (new ∷ news) fault none (Some own, others, is, broken, ends) = absurd (none-some own (sym none ∙ is))
+all_taken setting turns olds news fault none ends = absurd ends
 
 pub first_taken : (setting : Setting) (turns count : ℕ) (whole part new rest : List ClerkView) (fault : Option CallFault) → whole ≡ part ++ rest → length part ≡ count → count ≡ min (length whole) 64 → length new ≡ length part
     → AllEnd setting turns part new fault → fault ≡ None → AllTakeTurns setting turns (take 64 whole) (take 64 (new ++ rest))

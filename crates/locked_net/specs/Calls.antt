@@ -7,6 +7,9 @@ use Rattle.rule_machine.specs.declared.event.Event.{Event}
 use Rattle.rule_machine.specs.declared.event.Event.TheVariants.{Step}
 use Rattle.rule_machine.specs.declared.reply.Reply.{Reply}
 use Rattle.rule_machine.specs.declared.reply.Reply.TheVariants.{Accepted, Moves}
+use Rattle.rule_machine.specs.State.{State}
+use Rattle.rule_machine.specs.declared.verdict.Verdict.{Verdict}
+use Rattle.rule_engine.specs.ChoiceMoves.{verdicts_of}
 use Rattle.fault_injector.specs.DrawnFaults.{is_register_fault}
 use Rattle.step_log.specs.declared.fault.RecordFault.{RecordFault}
 use Rattle.step_log.specs.declared.fault.RecordFault.TheVariants as record_fault
@@ -16,10 +19,10 @@ use Rattle.steal_pool.specs.declared.fault.PoolFault.{PoolFault}
 use Rattle.steal_pool.specs.declared.fault.PoolFault.TheVariants.{ZeroWorkers}
 use Rattle.steal_pool.specs.declared.fault.PoolFault.TheVariants as pool_fault
 use Rattle.locked_net.specs.Receipts.{front_of}
-use Rattle.locked_net.specs.declared.call_fault.CallFault.{CallFault}
-use Rattle.locked_net.specs.declared.call_fault.CallFault.TheVariants.{Behind, LogFull, Memory}
-use Rattle.locked_net.specs.declared.step_fault.StepFault.{StepFault}
-use Rattle.locked_net.specs.declared.step_fault.StepFault.TheVariants.{Call, Pool}
+use Rattle.locked_net.specs.declared.fault.CallFault.{CallFault}
+use Rattle.locked_net.specs.declared.fault.CallFault.TheVariants.{Behind, LogFull, Memory}
+use Rattle.locked_net.specs.declared.fault.StepFault.{StepFault}
+use Rattle.locked_net.specs.declared.fault.StepFault.TheVariants.{Call, Pool}
 
 -- the fault for a clerk that has seen `seen` entries, before memory matters
 abbrev pub call_fault : ℕ → RetainedLog → Option CallFault
@@ -97,6 +100,11 @@ pub record Breaks (t : RuleTable) (before after : RetainedLog) (old new : List R
   pub accepted : reply ≡ Accepted
 
 -- ---- steps that workers judge
+
+-- if the event is a step, its items have these verdicts in the state
+abbrev pub AreVerdicts : RuleTable → State → Event → List Verdict → Type 0
+AreVerdicts t s (Step items) verdicts = verdicts ≡ verdicts_of t s items
+AreVerdicts t s event verdicts = Unit {0}
 
 -- the fault is the one found; if none was found, it is `ZeroWorkers` without workers, and `Memory` otherwise
 abbrev pub ExplainsStep : Option CallFault → ℕ → StepFault → Type 0

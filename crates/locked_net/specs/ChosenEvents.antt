@@ -20,8 +20,8 @@ use Rattle.snapshots.specs.Views.{PublishedLog}
 use Rattle.locked_net.specs.Receipts.{ClerkView, front_of, noted}
 use Rattle.locked_net.specs.Settings.{Setting, IsLogIn}
 use Rattle.locked_net.specs.Calls.{call_fault, checkpoint_fault, ExplainsCallFault, ExplainsStep, MayAnswer, MayAnswerStep, MayRefuseCheckpoint}
-use Rattle.locked_net.specs.declared.call_fault.CallFault.{CallFault}
-use Rattle.locked_net.specs.declared.step_fault.StepFault.{StepFault}
+use Rattle.locked_net.specs.declared.fault.CallFault.{CallFault}
+use Rattle.locked_net.specs.declared.fault.StepFault.{StepFault}
 
 -- a choice among the enabled nodes of a state, as an event
 abbrev pub ChoosesStep : RuleTable → (List ℕ → Option (List Item) → Type 0) → State → Option Event → Type 0

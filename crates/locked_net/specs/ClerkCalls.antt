@@ -5,8 +5,8 @@
 use Rattle.std.specs.Prelude.{◌≡◌, ◌<◌, ℕ, Option, None, Result, Ok, Err, IfOk, MatchOption, OnErr}
 use mathlib.Core.List.{IsPrefix}
 use Rattle.logbook.specs.Pages.{Book}
-use Rattle.locked_net.specs.declared.call_fault.CallFault.{CallFault}
-use Rattle.locked_net.specs.declared.step_fault.StepFault.{StepFault}
+use Rattle.locked_net.specs.declared.fault.CallFault.{CallFault}
+use Rattle.locked_net.specs.declared.fault.StepFault.{StepFault}
 use Rattle.locked_net.specs.Receipts.{ClerkView, HasNoteOf, front_of, seen_by, noted}
 use Rattle.locked_net.specs.PublishedJournals.{PublishedJournalView, KeepsKey}
 use Rattle.locked_net.specs.Calls.{ExplainsCallFault, ExplainsStep}

@@ -1,5 +1,4 @@
 pub mod Receipts
-pub mod Settlements
 pub mod WholeLogs
 pub mod CountedLogs
 pub mod Settings
@@ -7,12 +6,9 @@ pub mod RetainedParts
 pub mod Calls
 pub mod ClerkCalls
 pub mod ChosenEvents
-pub mod Marks
 pub mod PublishedJournals
 pub mod Nets
 pub mod Looks
-pub mod Reaches
 pub mod RoamTurns
 pub mod RoamResults
 pub mod ReaderAnswers
-pub mod Headline

@@ -5,8 +5,8 @@ use Rattle.rule_machine.specs.RuleTable.{RuleTable}
 use Rattle.rule_machine.specs.Run.{Entry, Moment, Run}
 use Rattle.snapshots.specs.Row.{BoardShape}
 use Rattle.snapshots.specs.Starts.{StartsAt}
-use Rattle.locked_net.specs.declared.read_fault.ReadFault.{ReadFault}
-use Rattle.locked_net.specs.declared.read_fault.ReadFault.TheVariants.{UnknownNode, NoView}
+use Rattle.locked_net.specs.declared.fault.ReadFault.{ReadFault}
+use Rattle.locked_net.specs.declared.fault.ReadFault.TheVariants.{UnknownNode, NoView}
 
 -- The entries seen are a run of the rules with one name fewer than places. The run begins at the board's base;
 -- without one, at the opening state with the board's first nodes present. P is true of the state at the run's

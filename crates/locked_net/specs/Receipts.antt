@@ -1,11 +1,10 @@
 -- What a clerk keeps: a receipt for each reply, oldest first, with the number of the log's entry; a note of
 -- what was published at the last receipt or later; and the greatest number that a checkpoint returned.
 use Rattle.std.specs.Prelude.{◌≡◌, ℕ, ◌<◌, ◌-◌, max, List, [], ◌∷◌, Option, None, Some, IfSome, IsSomeAnd, slice_get}
-use Rattle.std.specs.Option.{option_map}
-use Rattle.rule_machine.specs.declared.base.Base.{Base}
 use Rattle.rule_machine.specs.Base.{dropped}
 use Rattle.rule_machine.specs.Run.{Entry}
 use Rattle.step_log.specs.declared.receipt.Receipt.{Receipt}
+pub use Rattle.step_log.specs.Receipts.{ReceiptsView, RiseAbove, base_from, base_number, greater_base}
 use Rattle.logbook.specs.Pages.{Book}
 use Rattle.snapshots.specs.Views.{PublishedLog}
 
@@ -17,11 +16,6 @@ front_from front (receipt ∷ receipts) = front_from receipt.seq receipts
 -- the number of a clerk's last receipt; 0 if it has none
 abbrev pub front_of : List Receipt → ℕ
 front_of receipts = front_from 0 receipts
-
--- the numbers rise strictly, and each is above `low`
-abbrev pub RiseAbove : ℕ → List Receipt → Type 0
-RiseAbove low [] = Unit {0}
-RiseAbove low (receipt ∷ receipts) = (low < receipt.seq) × RiseAbove receipt.seq receipts
 
 -- Entries are numbered after `start`. The receipt is the entry with the receipt's number: the same event with
 -- the same reply.
@@ -35,14 +29,9 @@ pub record ClerkView : Type 0 where
   pub note : Option PublishedLog
   pub base : Option ℕ
 
--- the number of the last entry before a base; none if there is no base
-abbrev pub base_number : Option Base → Option ℕ
-base_number base = option_map (λ b. b.number) base
-
--- the number of a base; 0 if there is none
-abbrev pub base_from : Option ℕ → ℕ
-base_from None = 0
-base_from (Some number) = number
+-- what the clerk's receipts are settled by
+abbrev pub receipts_of : ClerkView → ReceiptsView
+receipts_of clerk = record { receipts = clerk.receipts; base = clerk.base }
 
 -- the greatest entry number that a clerk with this base has seen, in its last receipt or from a checkpoint
 abbrev pub seen_from : Option ℕ → List Receipt → ℕ
@@ -79,12 +68,6 @@ noted (Some note) = note.log
 pub record IsClerk (clerk : ClerkView) : Type 0 where
   pub rise : RiseAbove 0 clerk.receipts
   pub last : NotesLast clerk.receipts clerk.note
-
--- the greater of two numbers; if only one is there, that number
-abbrev pub greater_base : Option ℕ → Option ℕ → Option ℕ
-greater_base None other = other
-greater_base (Some one) None = Some one
-greater_base (Some one) (Some other) = Some (max one other)
 
 -- there is a note, and the note is of this history
 abbrev pub HasNoteOf : Book → ClerkView → Type 0

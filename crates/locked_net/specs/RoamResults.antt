@@ -17,10 +17,10 @@ use Rattle.step_log.specs.RetainedLogs.{RetainedLog}
 use Rattle.locked_net.specs.Settings.{Setting, IsLogIn}
 use Rattle.locked_net.specs.Receipts.{ClerkView, HasNoteOf, base_from, front_of, noted, seen_by}
 use Rattle.locked_net.specs.RoamTurns.{lone_step, receipts_of_turn, fault_of_turn, FaultInTurn}
-use Rattle.locked_net.specs.declared.call_fault.CallFault.{CallFault}
-use Rattle.locked_net.specs.declared.call_fault.CallFault.TheVariants as call_fault
-use Rattle.locked_net.specs.declared.roam_fault.RoamFault.{RoamFault}
-use Rattle.locked_net.specs.declared.roam_fault.RoamFault.TheVariants.{ZeroWorkers, Thread, Behind, LogFull, Memory}
+use Rattle.locked_net.specs.declared.fault.CallFault.{CallFault}
+use Rattle.locked_net.specs.declared.fault.CallFault.TheVariants as call_fault
+use Rattle.locked_net.specs.declared.fault.RoamFault.{RoamFault}
+use Rattle.locked_net.specs.declared.fault.RoamFault.TheVariants.{ZeroWorkers, Thread, Behind, LogFull, Memory}
 
 -- ---- promises to a caller
 

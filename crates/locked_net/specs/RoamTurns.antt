@@ -7,7 +7,7 @@ use Rattle.rule_machine.specs.State.{State}
 use Rattle.rule_machine.specs.RuleTable.{RuleTable, enabled_names}
 use Rattle.step_log.specs.declared.receipt.Receipt.{Receipt}
 use Rattle.step_log.specs.RetainedLogs.{RetainedLog, kept_with, next_receipt}
-use Rattle.locked_net.specs.declared.call_fault.CallFault.{CallFault}
+use Rattle.locked_net.specs.declared.fault.CallFault.{CallFault}
 use Rattle.locked_net.specs.Calls.{call_fault, checkpoint_fault, ExplainsCallFault}
 
 -- the node whose turn it is, if any: of the n enabled nodes, ascending, the one at index `turn mod n`, from 0

@@ -9,7 +9,7 @@ ghost use Rattle.snapshots.specs.History.{IsOneLog, AreOneLog, AreComparable};
 ghost use Rattle.snapshots.specs.Row.{partner_in};
 ghost use Rattle.locked_net.specs.Receipts.{StandsLast};
 ghost use Rattle.locked_net.specs.ReaderAnswers.{Shows, OnView, IfUnknown};
-ghost use Rattle.locked_net.specs.declared.read_fault.ReadFault.TheVariants.{NoView as NoLook};
+ghost use Rattle.locked_net.specs.declared.fault.ReadFault.TheVariants.{NoView as NoLook};
 
 use crate::{Clerk, NoView, ReadFault};
 use rule_engine::{Node, Rules};

@@ -1,21 +1,18 @@
 //! A clerk: it calls a network and keeps the receipts.
 
 ghost use Rattle.std.specs.Prelude.{◌≡◌, None, Some, IfSome, MatchOption};
+ghost use mathlib.Core.List.{IsPrefix};
 ghost use Rattle.snapshots.specs.History.{AreComparable};
-ghost use Rattle.locked_net.specs.Receipts.{fresh, front_of, seen_by, noted, IsClerk, IsOfBook, RiseAbove};
+ghost use Rattle.locked_net.specs.Receipts.{fresh, front_of, seen_by, noted, HasNoteOf, IsClerk, IsOfBook, RiseAbove, receipts_of};
 
+use crate::ending::begins;
 use snapshots::Note;
 use std::alloc::Global;
 use std::marker::Model;
-use step_log::Receipt;
+use step_log::{Receipt, Receipts};
 
 mod calls;
-mod checkpoint;
-mod judged;
 mod locked;
-mod seeing;
-
-pub(crate) use checkpoint::greater;
 
 /// A caller of a network. Contracts see three things:
 ///
@@ -87,6 +84,17 @@ impl Clerk {
         &self.receipts
     }
 
+    pub(crate) fn into_receipts(self) -> Receipts
+        ensures { result ≡ receipts_of self }
+    {
+        let Clerk {
+            receipts,
+            note: _,
+            base,
+        } = self;
+        Receipts::new(receipts, base)
+    }
+
     pub(crate) fn note(&self) -> Option<&Note>
         ensures note { MatchOption result (self.now.note ≡ None) (λ note. self.now.note ≡ Some note.now) }
         ensures clerk { IsClerk self.now }
@@ -116,6 +124,21 @@ impl Clerk {
             if let Some(own) = own {
                 before.meets(own);
             }
+        }
+    }
+
+    /// Takes in another note of the clerk's network: the clerk's note then includes the logs of both.
+    /// Receipts and base stay. Takes no memory.
+    pub fn sees(&mut self, other: Note)
+        requires { IsOfBook other.book self.old }
+        ensures seen { IsPrefix other.log (noted self.new.note) }
+        ensures grows { IsPrefix (noted self.old.note) (noted self.new.note) }
+        ensures note { HasNoteOf other.book self.new }
+        ensures receipts { self.new.receipts ≡ self.old.receipts }
+        ensures base { self.new.base ≡ self.old.base }
+    {
+        if begins(self, &other) {
+            self.note = Some(other);
         }
     }
 }

@@ -1,24 +1,23 @@
 //! How a locked network ends.
 
-ghost use Rattle.std.specs.Prelude.{◌≡◌, ◌≢◌, false, IfOk, IfErr, IfSome, OnOk, IsTrue};
+ghost use Rattle.std.specs.Prelude.{◌≡◌, ◌≢◌, false, map, IfOk, IfErr, IfSome, OnOk, IsTrue};
 ghost use Rattle.std.specs.List.{All};
 ghost use mathlib.Core.List.{IsPrefix};
 ghost use Rattle.step_log.specs.JournalViews.{kept_of};
 ghost use Rattle.step_log.specs.RetainedLogs.{IsRetainedRun};
 ghost use Rattle.locked_net.specs.RetainedParts.{IsBack, IsPartOfLog, IsPartNoted};
-ghost use Rattle.locked_net.specs.Headline.{Headline};
 ghost use Rattle.locked_net.specs.Nets.{book_of, name_count_of, first_nodes_of, start_number_of, log_limit_of, setting_of};
-ghost use Rattle.locked_net.specs.Receipts.{HasNoteOf, IsOfBook, noted};
-ghost use Rattle.locked_net.specs.Settlements.{Settlement, Unsettles};
-ghost use Rattle.locked_net.specs.declared.settle_fault.SettleFault.TheVariants.{Memory};
+ghost use Rattle.locked_net.specs.Receipts.{HasNoteOf, IsOfBook, noted, receipts_of};
+ghost use Rattle.step_log.specs.Headline.{Headline};
+ghost use Rattle.step_log.specs.Settlements.{Settlement, Unsettles};
+ghost use Rattle.step_log.specs.declared.settle_fault.SettleFault.TheVariants.{Memory};
 
-use crate::settling::settled_with;
 use crate::{Clerk, LockedNet, SettleFault, Unsettled};
-use rule_engine::Rules;
+use rule_engine::{Rules, Want};
 use snapshots::Note;
 use std::alloc::Global;
 use std::sync::Wait;
-use step_log::Journal;
+use step_log::{Journal, Receipts, settle_journal};
 
 /// Takes the journal out of a network that no thread shares, and settles clerks against the journal.
 ///
@@ -36,16 +35,16 @@ pub fn settle<R: Rules, W: Wait>(
     net: LockedNet<R>,
     clerks: Vec<Clerk>,
 ) -> Result<Journal<R>, Unsettled<R>>
-    ensures headline { IfOk result (λ journal. Headline (start_number_of net) R.table R.NODE_WEIGHT (kept_of journal) clerks.items) }
-    ensures settled { IfOk result (λ journal. Settlement (start_number_of net) (kept_of journal) clerks.items) }
+    ensures headline { IfOk result (λ journal. Headline (start_number_of net) R.table R.NODE_WEIGHT (kept_of journal) (map receipts_of clerks.items)) }
+    ensures settled { IfOk result (λ journal. Settlement (start_number_of net) (kept_of journal) (map receipts_of clerks.items)) }
     ensures run { IfOk result (λ journal. IsRetainedRun R.table R.NODE_WEIGHT (kept_of journal)) }
     ensures whole { IfOk result (λ journal. IsPartOfLog (setting_of R.table net) (kept_of journal)) }
     ensures size { IfOk result (λ journal. (journal.state.network.size ≡ name_count_of net) × (journal.present ≡ first_nodes_of net) × (journal.limit ≡ log_limit_of net)) }
-    ensures fault { IfErr result (λ unsettled. Unsettles (start_number_of net) (kept_of unsettled.journal) clerks.items unsettled.why) }
+    ensures fault { IfErr result (λ unsettled. Unsettles (start_number_of net) (kept_of unsettled.journal) (map receipts_of clerks.items) unsettled.why) }
     ensures back { IfErr result (λ unsettled. IsBack (setting_of R.table net) R.NODE_WEIGHT unsettled.journal) }
 {
     let (alloc, start) = (net.alloc(), net.start());
-    settle_journal(alloc, start, net.into_journal(rt), &clerks)
+    settle_clerks(alloc, start, net.into_journal(rt), clerks)
 }
 
 /// Like `settle`, for clerks that have called only this network or none.
@@ -58,13 +57,13 @@ pub fn settle_own<R: Rules, W: Wait>(
     clerks: Vec<Clerk>,
 ) -> Result<Journal<R>, Unsettled<R>>
     requires { All (IsOfBook (book_of net)) clerks.items }
-    ensures headline { IfOk result (λ journal. Headline (start_number_of net) R.table R.NODE_WEIGHT (kept_of journal) clerks.items) }
-    ensures settled { IfOk result (λ journal. Settlement (start_number_of net) (kept_of journal) clerks.items) }
+    ensures headline { IfOk result (λ journal. Headline (start_number_of net) R.table R.NODE_WEIGHT (kept_of journal) (map receipts_of clerks.items)) }
+    ensures settled { IfOk result (λ journal. Settlement (start_number_of net) (kept_of journal) (map receipts_of clerks.items)) }
     ensures noted { IfOk result (λ journal. IsPartNoted (setting_of R.table net) (kept_of journal) clerks.items) }
     ensures run { IfOk result (λ journal. IsRetainedRun R.table R.NODE_WEIGHT (kept_of journal)) }
     ensures whole { IfOk result (λ journal. IsPartOfLog (setting_of R.table net) (kept_of journal)) }
     ensures size { IfOk result (λ journal. (journal.state.network.size ≡ name_count_of net) × (journal.present ≡ first_nodes_of net) × (journal.limit ≡ log_limit_of net)) }
-    ensures fault { IfErr result (λ unsettled. Unsettles (start_number_of net) (kept_of unsettled.journal) clerks.items unsettled.why) }
+    ensures fault { IfErr result (λ unsettled. Unsettles (start_number_of net) (kept_of unsettled.journal) (map receipts_of clerks.items) unsettled.why) }
     ensures back { IfErr result (λ unsettled. IsBack (setting_of R.table net) R.NODE_WEIGHT unsettled.journal) }
     ensures back_noted { IfErr result (λ unsettled. (unsettled.why ≢ Memory) → IsPartNoted (setting_of R.table net) (kept_of unsettled.journal) clerks.items) }
 {
@@ -74,7 +73,7 @@ pub fn settle_own<R: Rules, W: Wait>(
         let why = SettleFault::Memory;
         return Err(Unsettled { why, journal });
     }
-    settle_journal(alloc, start, journal, &clerks)
+    settle_clerks(alloc, start, journal, clerks)
 }
 
 fn all_begin(clerks: &[Clerk], last: &Note) -> bool
@@ -102,20 +101,32 @@ pub(crate) fn begins(clerk: &Clerk, last: &Note) -> bool
     }
 }
 
-fn settle_journal<R: Rules>(
+fn settle_clerks<R: Rules>(
     alloc: Global,
     start: Option<u32>,
     journal: Journal<R>,
-    clerks: &[Clerk],
+    clerks: Vec<Clerk>,
 ) -> Result<Journal<R>, Unsettled<R>>
-    requires run { IsRetainedRun R.table R.NODE_WEIGHT (kept_of journal) }
     ensures same { IfOk result (λ settled. settled ≡ journal) }
-    ensures headline { OnOk result (Headline start R.table R.NODE_WEIGHT (kept_of journal) clerks.now) }
-    ensures fault { IfErr result (λ unsettled. Unsettles start (kept_of unsettled.journal) clerks.now unsettled.why) }
+    ensures headline { OnOk result (Headline start R.table R.NODE_WEIGHT (kept_of journal) (map receipts_of clerks.items)) }
+    ensures fault { IfErr result (λ unsettled. Unsettles start (kept_of unsettled.journal) (map receipts_of clerks.items) unsettled.why) }
     ensures back { IfErr result (λ unsettled. unsettled.journal ≡ journal) }
 {
-    match settled_with(alloc, start, &journal, clerks) {
-        Ok(()) => Ok(journal),
-        Err(why) => Err(Unsettled { why, journal }),
+    match all_receipts(alloc, clerks) {
+        Ok(receipts) => settle_journal(start, journal, &receipts),
+        Err(_) => Err(Unsettled {
+            why: SettleFault::Memory,
+            journal,
+        }),
     }
+}
+
+fn all_receipts(alloc: Global, clerks: Vec<Clerk>) -> Result<Vec<Receipts>, Want>
+    ensures { IfOk result (λ all. all.items ≡ map receipts_of clerks.items) }
+{
+    let mut all = Vec::with_capacity(alloc, clerks.len())?;
+    for clerk in clerks {
+        all.push(clerk.into_receipts())?;
+    }
+    Ok(all)
 }

@@ -11,14 +11,10 @@ use keyed_lock::Hold;
 use rule_engine::Rules;
 use std::marker::Model;
 use std::sync::Wait;
+use step_log::MAX_ENTRIES;
 
 mod calls;
-mod checkpoint;
-mod chosen;
-mod judged;
-mod lone;
 mod looks;
-mod rounds;
 
 /// A network whose lock the caller has until `free`. Cannot be dropped: `free` ends it.
 /// Contracts see the whole published log from its beginning, dropped entries included; the base of the kept
@@ -52,8 +48,8 @@ impl<R: Rules> LockedNet<R> {
         ensures own { IsLogIn (setting_of R.table self.now) result.log }
         ensures name { result.name ≡ name_of self.now }
     {
-        let (published, hold) = self.take(rt);
-        published.is_run();
+        let (published, hold) = self.lock.take(rt);
+        prove!(published.len() <= MAX_ENTRIES);
         HeldNet {
             net: self,
             published,
@@ -70,6 +66,6 @@ impl<R: Rules> HeldNet<'_, R> {
             published,
             hold,
         } = self;
-        net.give(hold, published);
+        net.lock.give(hold, published);
     }
 }

@@ -20,36 +20,23 @@
 #![tactic(auto)]
 
 mod board_reader;
-mod call_fault;
 mod clerk;
 mod ending;
-mod forks;
+mod fault;
 mod held;
+mod looks;
 mod net;
 mod net_key;
 mod published_journal;
-mod read_fault;
-mod roam_config;
-mod roam_fault;
 mod roaming;
-mod seen_cost;
-mod seen_reach;
-mod settle_fault;
-mod settling;
 mod sharing;
-mod step_fault;
 
 pub use board_reader::{BoardReader, SeenPartner, SeenPointer};
-pub use call_fault::CallFault;
 pub use clerk::Clerk;
 pub use ending::{settle, settle_own};
+pub use fault::{CallFault, NoView, ReadFault, ReaderFault, RoamFault, StepFault};
 pub use held::HeldNet;
+pub use looks::{SeenCost, SeenReach, SeenRest};
 pub use net::LockedNet;
-pub use read_fault::{NoView, ReadFault, ReaderFault};
-pub use roam_fault::RoamFault;
 pub use roaming::roam;
-pub use seen_cost::SeenCost;
-pub use seen_reach::{SeenReach, SeenRest};
-pub use settle_fault::{SettleFault, Unsettled};
-pub use settling::{own_numbers_never_clash, settling_is_exact};
-pub use step_fault::StepFault;
+pub use step_log::{SettleFault, Unsettled, own_numbers_never_clash, settling_is_exact};

@@ -12,7 +12,7 @@ use crate::net_key::{KeyInvariant, NetKey};
 use crate::published_journal::PublishedJournal;
 use crate::sharing::{copy_base, share};
 use crate::{BoardReader, Clerk, ReaderFault};
-use keyed_lock::{Hold, KeyedLock};
+use keyed_lock::KeyedLock;
 use rule_engine::{GraphFault, Rules};
 use rule_machine::{Base, Want};
 use snapshots::Note;
@@ -28,19 +28,18 @@ use step_log::{Journal, MAX_ENTRIES};
 /// the journal's entries, not published ones. A network cannot be dropped: `into_journal` ends it.
 pub struct LockedNet<R: Rules> {
     alloc: Global,
-    lock: KeyedLock<Box<PublishedJournal<R>>, NetKey, KeyInvariant>,
+    pub(crate) lock: KeyedLock<Box<PublishedJournal<R>>, NetKey, KeyInvariant>,
     start: Option<u32>,
     ghost start_is: { start ≡ base_number (key_of lock).beginning },
 }
 
 impl<R: Rules> LockedNet<R> {
-    ghost use Rattle.keyed_lock.specs.Locks.{IsHoldOf};
     ghost use Rattle.locked_net.specs.RetainedParts.{IsPartOfLog};
     ghost use Rattle.locked_net.specs.Looks.{IsPublished};
     ghost use Rattle.step_log.specs.JournalViews.{kept_of};
     ghost use Rattle.locked_net.specs.Nets.{net_key_of, name_count_of, first_nodes_of, beginning_of, log_limit_of, start_number_of, book_of, name_of, setting_of, HasSeenLog};
     ghost use Rattle.locked_net.specs.Receipts.{fresh};
-    ghost use Rattle.locked_net.specs.declared.read_fault.ReaderFault.TheVariants.{NoPlace};
+    ghost use Rattle.locked_net.specs.declared.fault.ReaderFault.TheVariants.{NoPlace};
     ghost use Rattle.step_log.specs.RetainedLogs.{IsRetainedRun};
 
     /// A new network of the nodes 1 to `nodes`, with a limit of 16,777,216 entries.
@@ -91,14 +90,14 @@ impl<R: Rules> LockedNet<R> {
         ensures fault { IfErr result (λ fault. ExplainsGraphFault (nodes_fault nodes) fault) }
     {
         let journal = Journal::with_present(alloc, nodes, present, limit)?;
-        match share(alloc, rt, journal, present, limit.min(MAX_ENTRIES), None) {
+        match share(alloc, rt, journal, present, None) {
             Ok(net) => Ok(net),
             Err(_) => Err(GraphFault::Memory),
         }
     }
 
     /// The network of a journal without entries: its log begins at the journal's base, if any.
-    /// `limit` is the journal's. If the journal counts rounds, the network counts on.
+    /// If the journal counts rounds, the network counts on.
     /// New journals, and those of `from_base` and `of_net`, have as many nodes as at their beginning. A journal
     /// with a checkpoint after joins or leaves may not.
     /// `AllocError` if memory runs out. Costs a board, and what a checkpoint costs if there is a base.
@@ -106,11 +105,9 @@ impl<R: Rules> LockedNet<R> {
         alloc: Global,
         rt: &W,
         journal: Journal<R>,
-        limit: u32,
     ) -> Result<LockedNet<R>, Want>
         requires none { journal.entries ≡ [] }
         requires present { journal.present ≡ node_count journal.state.network }
-        requires limit { journal.limit ≡ limit }
         ensures nodes { IfOk result (λ net. name_count_of net ≡ journal.state.network.size) }
         ensures present { IfOk result (λ net. first_nodes_of net ≡ journal.present) }
         ensures limit { IfOk result (λ net. log_limit_of net ≡ journal.limit) }
@@ -118,7 +115,7 @@ impl<R: Rules> LockedNet<R> {
     {
         let base = copy_base(&journal)?;
         let present = journal.net().store().nodes();
-        share(alloc, rt, journal, present, limit, base)
+        share(alloc, rt, journal, present, base)
     }
 
     /// A new clerk, without receipts.
@@ -154,30 +151,6 @@ impl<R: Rules> LockedNet<R> {
         ensures { result ≡ start_number_of self.now }
     {
         self.start
-    }
-
-    pub(crate) fn take<W: Wait>(
-        &self,
-        rt: &W,
-    ) -> (
-        Box<PublishedJournal<R>>,
-        Hold<Box<PublishedJournal<R>>, NetKey>,
-    )
-        ensures key { IsOfKey (net_key_of self.now) result.0.value }
-        ensures hold { IsHoldOf self.now.lock result.1 }
-    {
-        self.lock.take(rt)
-    }
-
-    pub(crate) fn give(
-        &self,
-        hold: Hold<Box<PublishedJournal<R>>, NetKey>,
-        published: Box<PublishedJournal<R>>,
-    )
-        requires key { IsOfKey (net_key_of self.now) published.value }
-        requires hold { IsHoldOf self.now.lock hold }
-    {
-        self.lock.give(hold, published);
     }
 
     /// The journal of a network that no thread shares; the log is a run of the rule machine.

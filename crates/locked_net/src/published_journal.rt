@@ -1,20 +1,19 @@
 //! What a network's lock guards.
 
 ghost use Rattle.std.specs.Prelude.{◌≡◌, ◌+◌, ◌<◌, ◌++◌, ◌∷◌, ◌↔◌, [], length, IfOk, None, IfSome, OnOk, OnErr, IsErrOf, IsTrue, vec_capacity};
-ghost use Rattle.rule_machine.specs.declared.event.Event.TheVariants.{Step};
 ghost use Rattle.round_laws.specs.RoundCounts.{next_counting};
-ghost use Rattle.rule_engine.specs.ChoiceMoves.{verdicts_of};
 ghost use Rattle.rule_engine.specs.RoundsLeft.{LeavesIfCounted, rounds_left};
 ghost use Rattle.step_log.specs.declared.fault.RecordFault.TheVariants.{LogFull};
 ghost use Rattle.step_log.specs.JournalViews.{IsNextReceipt, kept_of};
 ghost use Rattle.snapshots.specs.Row.{IsRun};
 ghost use Rattle.step_log.specs.RetainedLogs.{IsRetainedRun, last_number, moment_in, kept_with, next_receipt};
 ghost use Rattle.locked_net.specs.WholeLogs.{IsWholeLog};
+ghost use Rattle.locked_net.specs.Calls.{AreVerdicts};
 ghost use Rattle.locked_net.specs.CountedLogs.{CountsWholeLog};
 ghost use Rattle.locked_net.specs.RetainedParts.{IsLogAboveBase, log_over};
 ghost use Rattle.locked_net.specs.PublishedJournals.{IsPublishedJournal, based, counting_held, KeepsKey};
 
-use rule_engine::{Choice, Event, Net, NodeBound, Reply, Rules, Verdict, Want};
+use rule_engine::{Event, Net, NodeBound, Reply, Rules, Verdict, Want};
 use rule_machine::Base;
 use snapshots::{Board, NoPlace, Note, Reader, Runs};
 use std::alloc::{AllocError, Global};
@@ -99,13 +98,6 @@ impl<R: Rules> PublishedJournal<R> {
         self.journal.len()
     }
 
-    /// Runs no code.
-    pub(crate) fn is_run(&self)
-        ensures { IsWholeLog R.table self.now.log }
-    {
-        let _journal = &self.journal;
-    }
-
     pub(crate) fn is_full(&self) -> bool
         ensures { IsTrue result ↔ (last_number self.now.log ≡ self.now.log.limit) }
     {
@@ -138,13 +130,16 @@ impl<R: Rules> PublishedJournal<R> {
         self.board.note()
     }
 
-    /// Appends the receipt, for which there is room. After a fault nothing has changed.
+    /// Appends the receipt; the list has room for it. After a fault nothing has changed.
+    /// If the event is a step, `verdicts` may be those of its items; no guard is evaluated again then.
     pub(crate) fn record<W: Wait>(
         &mut self,
         rt: &W,
         event: Event,
+        verdicts: Option<&[Verdict]>,
         receipts: &mut Vec<Receipt>,
     ) -> Result<RecordedEvent, RecordFault>
+        requires judged { IfSome verdicts (λ verdicts. AreVerdicts R.table self.old.log.state event verdicts.now) }
         requires room { length receipts.old.items < vec_capacity receipts.old }
         ensures log { OnOk result (self.new.log ≡ kept_with R.table self.old.log event) }
         ensures receipt { OnOk result (receipts.new.items ≡ receipts.old.items ++ next_receipt R.table self.old.log event ∷ []) }
@@ -156,30 +151,7 @@ impl<R: Rules> PublishedJournal<R> {
         ensures key { KeepsKey self.old self.new }
         ensures counting { IfOk result (λ recorded. self.new.counting ≡ next_counting R.table recorded.reply self.new.log.state self.old.counting) }
     {
-        let prepared = self.journal.prepare(event)?;
-        Ok(finish(&mut self.journal, &mut self.board, rt, prepared, receipts)?)
-    }
-
-    pub(crate) fn record_step<W: Wait>(
-        &mut self,
-        rt: &W,
-        choice: Choice,
-        verdicts: &[Verdict],
-        receipts: &mut Vec<Receipt>,
-    ) -> Result<RecordedEvent, RecordFault>
-        requires verdicts { verdicts.now ≡ verdicts_of R.table self.old.log.state choice }
-        requires room { length receipts.old.items < vec_capacity receipts.old }
-        ensures log { OnOk result (self.new.log ≡ kept_with R.table self.old.log (Step choice)) }
-        ensures receipt { OnOk result (receipts.new.items ≡ receipts.old.items ++ next_receipt R.table self.old.log (Step choice) ∷ []) }
-        ensures same_receipts { OnErr result (receipts.new.items ≡ receipts.old.items) }
-        ensures reply { IfOk result (λ recorded. recorded.reply ≡ (next_receipt R.table self.old.log (Step choice)).reply) }
-        ensures note { IfOk result (λ recorded. (recorded.note.log ≡ self.new.log.entries) × (recorded.note.book ≡ self.old.name.book) × (recorded.note.base ≡ self.old.log.base)) }
-        ensures full { IsErrOf result LogFull → last_number self.old.log ≡ self.old.log.limit }
-        ensures kept { OnErr result (self.new ≡ self.old) }
-        ensures key { KeepsKey self.old self.new }
-        ensures counting { IfOk result (λ recorded. self.new.counting ≡ next_counting R.table recorded.reply self.new.log.state self.old.counting) }
-    {
-        let prepared = self.journal.prepare_step(choice, verdicts)?;
+        let prepared = prepare(&mut self.journal, event, verdicts)?;
         Ok(finish(&mut self.journal, &mut self.board, rt, prepared, receipts)?)
     }
 
@@ -240,6 +212,27 @@ fn board_at<R: Rules>(
     match base {
         Some(base) => Board::from_base(alloc, places, base, READERS),
         None => Board::new(alloc, places, present, READERS),
+    }
+}
+
+fn prepare<R: Rules>(
+    journal: &mut Journal<R>,
+    event: Event,
+    verdicts: Option<&[Verdict]>,
+) -> Result<Prepared, RecordFault>
+    requires { IfSome verdicts (λ verdicts. AreVerdicts R.table journal.old.state event verdicts.now) }
+    ensures receipt { IfOk result (λ prepared. prepared ≡ next_receipt R.table (kept_of journal.old) event) }
+    ensures ready { IfOk result (λ prepared. IsNextReceipt R.table journal.new prepared) }
+    ensures full { IsErrOf result LogFull → last_number (kept_of journal.old) ≡ journal.old.limit }
+    ensures kept { kept_of journal.new ≡ kept_of journal.old }
+    ensures counting { journal.new.counting ≡ journal.old.counting }
+{
+    let Some(verdicts) = verdicts else {
+        return journal.prepare(event);
+    };
+    match event {
+        Event::Step(choice) => journal.prepare_step(choice, verdicts),
+        event => journal.prepare(event),
     }
 }
 

@@ -19,17 +19,16 @@ pub(crate) fn share<R: Rules, W: Wait>(
     rt: &W,
     journal: Journal<R>,
     present: u32,
-    limit: u32,
     beginning: Option<Base>,
 ) -> Result<LockedNet<R>, AllocError>
     requires none { journal.entries ≡ [] }
     requires present { journal.present ≡ present }
-    requires limit { journal.limit ≡ limit }
     requires base { journal.base ≡ beginning }
     requires counted { IfSome beginning (λ b. present ≡ length b.nodes) }
-    ensures { IfOk result (λ net. (name_count_of net ≡ journal.state.network.size) × (first_nodes_of net ≡ present) × (log_limit_of net ≡ limit) × (beginning_of net ≡ beginning)) }
+    ensures { IfOk result (λ net. (name_count_of net ≡ journal.state.network.size) × (first_nodes_of net ≡ present) × (log_limit_of net ≡ journal.limit) × (beginning_of net ≡ beginning)) }
 {
     let nodes = journal.net().store().capacity();
+    let limit = journal.limit();
     let published = PublishedJournal::begin(alloc, journal, present, &beginning)?;
     let opening = published.note();
     let key = NetKey {

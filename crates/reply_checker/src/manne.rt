@@ -60,6 +60,7 @@ fn updates_or_abandons(net: &NetState, v: Node, w: Node) -> bool
     ensures value { result ≡ is_some (table.rule_at manne net.now.state v) }
     ensures sound { state.IsState net.now.state }
 {
+    // Gives the prover `IsState`.
     let _ = net.registers();
     net.flag(v) != net.married(v) || (!points_back(net, v, w) && (flag(net, w) || w <= v))
 }

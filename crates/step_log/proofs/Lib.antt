@@ -1,5 +1,4 @@
 pub mod Prelude
-pub mod Wholes
 pub mod RecordedEvents
 pub mod AscendingNumbers
 pub mod ReplyKinds
@@ -7,6 +6,8 @@ pub mod LogGrowth
 pub mod Once
 pub mod EpochPaths
 pub mod HeadlineProof
+pub mod ReceiptMarks
+pub mod SettlementFaults
 pub mod BaseStarts
 pub mod EpochRounds
 pub mod KeptRounds

@@ -1,16 +1,15 @@
 -- What the proofs of this crate import from the crates below and from its own definitions.
-pub use Rattle.std.proofs.Common.{◌≡◌, ℕ, suc, ◌<◌, false, List, [], ◌∷◌, get_or, nat_eq, arith, ◌≢◌, ◌+◌, ◌*◌, ◌≤◌, ◌++◌, length, map, drop, inl, inr, ◌⊎◌, All, append_assoc, refl, sym, ap, ap₂, ◌∙◌, subst, true, Some, cond, ◌&&◌, filter_map, Any, Option, None, is_some, is_none, nat_le, option_and_then, le-leb}
-pub use Rattle.std.proofs.lemmas.Bool.{ne_eqb, false≢true}
-pub use Rattle.std.proofs.lemmas.List.{append-nil, get_or-map, map-append, length-map, length-append}
-pub use Rattle.std.proofs.Common.{Bool, IsTrue}
+pub use Rattle.std.proofs.Common.{◌≡◌, ℕ, suc, ◌<◌, false, List, [], ◌∷◌, get_or, nat_eq, arith, ◌≢◌, ◌+◌, ◌*◌, ◌≤◌, ◌++◌, length, map, drop, inl, inr, ◌⊎◌, All, append_assoc, refl, sym, ap, ap₂, ◌∙◌, subst, true, Some, cond, ◌&&◌, filter_map, Any, Option, None, is_some, is_none, nat_le, option_and_then, le-leb, rules, set, slice_index_or, take, zero, ⊎_elim, ◌-◌, ◌↔◌}
+pub use Rattle.std.proofs.lemmas.Bool.{ne_eqb, false≢true, cases_eq, cases_lt, cases_order}
+pub use Rattle.std.proofs.lemmas.List.{append-nil, get_or-map, map-append, length-map, length-append, get_or-set_other, get_or-set_same, length-set, take_all}
+pub use Rattle.std.proofs.Common.{Bool}
 pub use Rattle.std.proofs.lemmas.List.Elements.{recursion_from_All, All-weaker, All-push}
-pub use Rattle.enabled_set.specs.Members.{members}
 pub use Rattle.std.proofs.lemmas.List.FromFn.{length-range_with_len}
 pub use Rattle.std.proofs.lemmas.List.Kept.{AllPairs-from_increasing}
-pub use Rattle.std.proofs.lemmas.List.Sums.{list_all-from_AllPass, length-filter, count_by-le-length}
-pub use Rattle.std.proofs.lemmas.Option.{none-some}
+pub use Rattle.std.proofs.lemmas.List.Sums.{list_all-from_AllPass, length-filter, count_by-le-length, get_or-le-sum_by, sum_by-cons, sum_by-set, sum_by_more}
+pub use Rattle.std.proofs.lemmas.Option.{none-some, get_or_from_slice_get, same_Some, slice_get_read, slice_get_within}
 pub use Rattle.std.proofs.lemmas.Result.{IfOk-weaker}
-pub use Rattle.std.specs.List.{list_all, cons_option, range_with_len}
+pub use Rattle.std.specs.List.{list_all, cons_option, range_with_len, count_by, slice_get, sum_by}
 pub use Rattle.std.specs.List.Sorted.{IsStrictlyIncreasing}
 pub use Rattle.std.specs.Option.{option_map}
 pub use Rattle.std.specs.Prelude.{IfOk, IfSome}
@@ -28,7 +27,7 @@ pub use Rattle.machine_laws.proofs.Determinism.{answers_once}
 pub use Rattle.machine_laws.proofs.LeastAnswers.{least_answers}
 pub use Rattle.machine_laws.proofs.LeastMoves.{IsTable}
 pub use Rattle.machine_laws.proofs.MaximalMatchings.{maximal_from_stable, stable_from_maximal}
-pub use Rattle.machine_laws.proofs.Runs.{runs_end_in_states, run_add, answers_keep}
+pub use Rattle.machine_laws.proofs.Runs.{runs_end_in_states, run_add}
 pub use Rattle.machine_laws.proofs.Sizes.{runs_keep_size}
 pub use Rattle.machine_laws.proofs.UnusedFlags.{IsFlagless}
 pub use Rattle.machine_laws.specs.StatesAfterReplies.{followed}
@@ -62,9 +61,14 @@ pub use Rattle.rule_machine.specs.declared.reply.Reply.{Reply}
 pub use Rattle.rule_machine.specs.declared.reply.Reply.TheVariants.{Accepted, Refused, Moves, Shown, EnabledAre, Pairs, Counts}
 pub use Rattle.step_log.specs.Epochs.{AreEpochs, IsEpochWithinBound, IsEpochPath, begun_by, ended_by, epoch_now, epochs_along, of_run, open_in, over_after, over_in, path_end}
 pub use Rattle.step_log.specs.Headline.{Upholds, LeadsTo}
-pub use Rattle.step_log.specs.JournalViews.{IsJournal, JournalView, kept_of, undropped_log, IsNextReceipt}
-pub use Rattle.step_log.specs.Log.{empty_log_with, max_entries, Log, IsLog}
+pub use Rattle.step_log.specs.JournalViews.{IsJournal, JournalView, kept_of, IsNextReceipt}
+pub use Rattle.step_log.specs.Log.{empty_log_with, max_entries}
 pub use Rattle.step_log.specs.Recording.{Recording, IsRecording, entered}
-pub use Rattle.step_log.specs.RetainedLogs.{RetainedLog, Begins, moment_in, IsRetainedRun, IsBaseOfGraph, checkpointed, kept_with, last_number, next_entry, whole, log_in}
+pub use Rattle.step_log.specs.RetainedLogs.{RetainedLog, Begins, moment_in, IsRetainedRun, IsBaseOfGraph, checkpointed, kept_with, last_number, next_entry, whole}
 pub use Rattle.step_log.specs.declared.epoch.Epoch.{Epoch}
 pub use Rattle.step_log.specs.declared.receipt.Receipt.{Receipt}
+pub use Rattle.step_log.specs.Receipts.{ReceiptsView, RiseAbove, base_from, base_number}
+pub use Rattle.step_log.specs.Settlements.{Agrees, HasReceiptNumber, IsEarlierReceipt, IsEntryAbove, IsFirstStranger, Settlement, StandsAt, Unsettles, entry_count, greatest_base, receipt_count}
+pub use Rattle.step_log.specs.Marks.{AreReceiptMarks, mark_of}
+pub use Rattle.step_log.specs.declared.settle_fault.SettleFault.{SettleFault}
+pub use Rattle.step_log.specs.declared.settle_fault.SettleFault.TheVariants.{BaseDiffers, CountDiffers, Stranger}

@@ -1,5 +1,6 @@
--- What holds of every log, for any edits, faults, queries and daemon choices.
-use Rattle.std.specs.Prelude.{◌≡◌, ℕ, ◌+◌, ◌*◌, ◌≤◌, ◌↔◌, [], ◌++◌, List, map, All}
+-- The headline: what the log and its callers' receipts say together, for any edits, faults, queries and daemon
+-- choices of the callers' threads; and what holds of every log.
+use Rattle.std.specs.Prelude.{◌≡◌, ℕ, ◌+◌, ◌*◌, ◌≤◌, ◌↔◌, [], ◌++◌, List, Option, map, All}
 use Rattle.rule_machine.specs.Network.{node_count, edge_count}
 use Rattle.rule_machine.specs.State.{State}
 use Rattle.rule_machine.specs.RuleTable.{RuleTable, enabled_names}
@@ -9,7 +10,9 @@ use Rattle.machine_laws.specs.ChargeWords.{IsUndisturbed, moves_in}
 use Rattle.machine_laws.specs.Epochs.{IsPath, IsBoundedEpoch}
 use Rattle.rule_engine.specs.EngineStates.{IsAnswered}
 use Rattle.step_log.specs.Epochs.{epochs_along}
+use Rattle.step_log.specs.Receipts.{ReceiptsView}
 use Rattle.step_log.specs.RetainedLogs.{RetainedLog, Begins, moment_in}
+use Rattle.step_log.specs.Settlements.{Settlement}
 
 -- No rule is enabled exactly if the network is stable; the mutual pairs of a stable network are a maximal
 -- matching. If every pointer is null or answered and the flags are right, the mutual pairs are a maximal
@@ -39,3 +42,12 @@ pub record Upholds (t : RuleTable) (weight : ℕ) (kept : RetainedLog) : Type 0 
       → (moves_in calm + t.charge n.state ≤ t.charge m.state) × (t.charge m.state ≤ 2 * edge_count m.state.network + weight * node_count m.state.network)
   pub epochs : (start : Moment) (path : List (Entry × State)) → Begins t weight kept start → map (λ step. step.0) path ≡ kept.entries → IsPath t start path
       → All (IsBoundedEpoch weight) (epochs_along kept start path)
+
+-- * upheld: the log is a run of the rule machine, silent exactly if stable, and the log's moves are within
+--   their bounds;
+-- * told: each reply to a caller is that of the run, and each entry belongs to one caller.
+-- Both are true of the entries above the journal's base; below it only the receipts' numbers count. `begun` is
+-- the number of the base at which the network began; none for the opening state.
+pub record Headline (begun : Option ℕ) (t : RuleTable) (weight : ℕ) (kept : RetainedLog) (clerks : List ReceiptsView) : Type 0 where
+  pub upheld : Upholds t weight kept
+  pub told : Settlement begun kept clerks

@@ -11,7 +11,6 @@ use Rattle.round_laws.specs.RoundCounts.{RoundCount, first_count}
 use Rattle.rule_engine.specs.PreparedEvents.{NetView, IsPrepared}
 use Rattle.step_log.specs.declared.receipt.Receipt.{Receipt}
 use Rattle.step_log.specs.declared.epoch.Epoch.{Epoch}
-use Rattle.step_log.specs.Log.{Log}
 use Rattle.step_log.specs.RetainedLogs.{RetainedLog, IsRetainedRun, last_number, moment_in, next_receipt}
 use Rattle.step_log.specs.Epochs.{IsEpochPath, of_run}
 
@@ -34,10 +33,6 @@ pub record JournalView : Type 0 where
 abbrev pub kept_of : JournalView → RetainedLog
 kept_of held =
     record { state = held.state; spent = held.spent; base = held.base; entries = held.entries; limit = held.limit; present = held.present }
-
--- the log, if nothing was dropped
-abbrev pub undropped_log : JournalView → Log
-undropped_log held = record { state = held.state; spent = held.spent; entries = held.entries; limit = held.limit; present = held.present }
 
 -- the journal's network
 abbrev pub net_of : JournalView → NetView

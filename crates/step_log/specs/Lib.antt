@@ -3,6 +3,9 @@ pub mod Log
 pub mod RetainedLogs
 pub mod Epochs
 pub mod JournalViews
+pub mod Receipts
+pub mod Settlements
+pub mod Marks
 pub mod Headline
 pub mod JournalRounds
 pub mod BaseStarts

@@ -54,11 +54,6 @@ abbrev pub whole : Log → RetainedLog
 whole log =
     record { state = log.state; spent = log.spent; base = None; entries = log.entries; limit = log.limit; present = log.present }
 
--- the log, if nothing was dropped
-abbrev pub log_in : RetainedLog → Log
-log_in kept =
-    record { state = kept.state; spent = kept.spent; entries = kept.entries; limit = kept.limit; present = kept.present }
-
 -- the event with its reply
 abbrev pub next_entry : RuleTable → RetainedLog → Event → Entry
 next_entry t kept event = (event, reply_of t kept.state kept.spent event)

@@ -9,9 +9,9 @@ ghost use Rattle.step_log.specs.declared.fault.NoEntry.TheVariants.{Forgotten, B
 ghost use Rattle.round_laws.specs.RoundCounts.{next_counting};
 ghost use Rattle.step_log.specs.Epochs.{AreEpochs, IsEpochWithinBound};
 ghost use Rattle.rule_machine.specs.Base.{dropped};
-ghost use Rattle.step_log.specs.Log.{max_entries, IsLog, empty_log, empty_log_with};
+ghost use Rattle.step_log.specs.Log.{max_entries, empty_log, empty_log_with};
 ghost use Rattle.step_log.specs.RetainedLogs.{IsRetainedRun, last_number, whole, kept_with, next_receipt};
-ghost use Rattle.step_log.specs.JournalViews.{IsNextReceipt, counting_journal, kept_of, undropped_log};
+ghost use Rattle.step_log.specs.JournalViews.{IsNextReceipt, counting_journal, kept_of};
 ghost use Rattle.step_log.specs.Headline.{Upholds};
 ghost use Rattle.step_log.specs.JournalRounds.{AreEpochRounds, CountsKept};
 
@@ -123,9 +123,15 @@ impl<R: Rules> Journal<R> {
     pub fn len(&self) -> u32
         ensures number { result ≡ last_number (kept_of self.now) }
         ensures run { IsRetainedRun R.table R.NODE_WEIGHT (kept_of self.now) }
-        ensures log { self.now.base ≡ None → IsLog R.table (undropped_log self.now) }
     {
         self.dropped() + self.entries.len() as u32
+    }
+
+    /// The greatest number that an entry may have, at most 16,777,216.
+    pub fn limit(&self) -> u32
+        ensures { result ≡ self.now.limit }
+    {
+        self.limit
     }
 
     /// The entry with this number.
@@ -158,7 +164,6 @@ impl<R: Rules> Journal<R> {
         ensures counting { result.now.counting ≡ self.now.counting }
         ensures counted { CountsKept R.table R.NODE_WEIGHT (kept_of self.now) self.now.counted_from self.now.counting }
         ensures run { IsRetainedRun R.table R.NODE_WEIGHT (kept_of self.now) }
-        ensures log { self.now.base ≡ None → IsLog R.table (undropped_log self.now) }
         ensures upheld { Upholds R.table R.NODE_WEIGHT (kept_of self.now) }
     {
         &self.net

@@ -8,6 +8,8 @@
 //! network's state; each reply is the machine's; each epoch's moves are within the bound. After a fault
 //! nothing has changed.
 //!
+//! `settle_journal` compares the receipts of all callers with the log (clause `headline`).
+//!
 //! Both count rounds if asked (`count_rounds`): `net().rounds()` has the count, and each of `Journal::epochs` its
 //! rounds.
 //!
@@ -31,7 +33,8 @@ mod left;
 mod prepared;
 mod receipt;
 mod recorder;
-mod renumber;
+mod settle_fault;
+mod settling;
 mod start_fault;
 
 pub use epoch::Epoch;
@@ -40,6 +43,8 @@ pub use journal::Journal;
 pub use law::{beginnings_lead_somewhere, budgets_by_name, epoch_rounds_by_number, epochs_by_name};
 pub use log_entry::{Entry, MAX_ENTRIES};
 pub use prepared::Prepared;
-pub use receipt::{Answer, Receipt};
+pub use receipt::{Answer, Receipt, Receipts};
 pub use recorder::Recorder;
+pub use settle_fault::{SettleFault, Unsettled};
+pub use settling::{own_numbers_never_clash, settle_journal, settling_is_exact};
 pub use start_fault::StartFault;

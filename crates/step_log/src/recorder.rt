@@ -118,6 +118,13 @@ impl<R: Rules> Recorder<R> {
         self.net.count_rounds()
     }
 
+    /// Numbers the next entry 1, so that the whole limit is left. The network and `spent` do not change.
+    pub fn renumber(&mut self)
+        ensures { self.new ≡ record self.old { len = 0 } }
+    {
+        self.len = 0;
+    }
+
     /// Carries out an event, writes the reply into `reply`, and appends the entry's text with an LF.
     /// Afterwards `len` is the entry's number. A caller that has the event's text may pass it as `line`, and
     /// that text is copied.

@@ -1,5 +1,5 @@
 -- Whose notes a clerk has, and what they tell after a call.
-use Rattle.storm_runner.proofs.Prelude.{arith, ◌≡◌, ℕ, ◌<◌, ◌∷◌, [], Bool, false, not, Option, None, Some, IfSome, IsSomeAnd, refl, is_some, All-nil, All-cons, Receipt, IsPrefix, Book, Event, Reply, PublishedLog, ClerkView, front_of, base_from, seen_by, noted, HasNoteOf, IsOfBook, Keeps, Tell, Scene, IsFor, AreAbove, AddsReceipts}
+use Rattle.storm_runner.proofs.Prelude.{arith, ◌≡◌, ℕ, ◌<◌, ◌∷◌, [], Bool, false, not, Option, IfSome, IsSomeAnd, refl, is_some, All-nil, All-cons, Receipt, Book, Event, Reply, PublishedLog, ClerkView, front_of, base_from, seen_by, HasNoteOf, IsOfBook, Keeps, Tell, Scene, IsFor, AreAbove, AddsReceipts}
 use Rattle.storm_runner.proofs.TurnAddition.{last_above}
 
 -- what holds at an answer
@@ -19,8 +19,3 @@ told_one scene front event old new reply kept above =
     let receipt : Receipt = record { seq = kept.seq; event = event; reply = reply } in
     let P = λ (r : Receipt). base_from old.base < r.seq in
     record { own = receipt ∷ []; added = kept.added; fits = (refl, All-cons P receipt [] (last_above old new old.base receipt refl kept.added above) (All-nil P)) }
-
--- what no note shows begins what any note shows
-pub nothing_before : (before note : Option PublishedLog) → ((told : PublishedLog) → before ≡ Some told → ⊥) → IsPrefix (noted before) (noted note)
-nothing_before None note none = (noted note, refl)
-nothing_before (Some told) note none = absurd (none told refl)

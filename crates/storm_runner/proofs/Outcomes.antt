@@ -26,11 +26,6 @@ pub told_not_left : (t : RuleTable) (weight : ℕ) (at : StormStart) (texts : Li
 told_not_left t weight at texts scripts old new fault result is gives held fails nothing =
     subst (λ (r : Result Unit StormFault). EndsAllScripts t weight at texts old new r) (told result fault is gives) (not_left t weight at texts scripts old new fault held fails nothing)
 
-module _ {t : RuleTable} {weight : ℕ} {at : StormStart} {scripts : List (List ScriptLine)} {kept : RetainedLog} where
-  -- the scripts that were read are those that were played
-  pub leaves_read : {read : List (List ScriptLine)} {met : Option CallFault} → read ≡ scripts → Leaves t weight at read met kept → Leaves t weight at scripts met kept
-  leaves_read {read} {met} same leaves = subst (λ (s : List (List ScriptLine)). Leaves t weight at s met kept) same leaves
-
 module _ {t : RuleTable} {weight : ℕ} {at : StormStart} {scripts : List (List ScriptLine)} {kept : RetainedLog} (texts : List (Option (List ℕ))) (old new : Option (List ℕ)) where
   -- all was written, and the first fault that a script met is returned
   told_fault : (fault : CallFault) → AllHold texts scripts → Leaves t weight at scripts (Some fault) kept → WritesKept (Appends old new) at.asked kept

@@ -28,16 +28,15 @@ pub use Rattle.locked_net.specs.ClerkCalls.{some_of}
 pub use Rattle.locked_net.specs.Nets.{setting_of, book_of, beginning_of, name_count_of, first_nodes_of, log_limit_of}
 pub use Rattle.locked_net.specs.PublishedJournals.{PublishedJournalView}
 pub use Rattle.locked_net.specs.Receipts.{ClerkView, front_of, base_from, seen_by, noted, HasNoteOf, IsOfBook, fresh, front_from, greater_base}
-pub use Rattle.locked_net.specs.RoamResults.{AllEnd, AllRoam, RoamResult, KeepsNote, AllKeepNotes, EndsOnLog, MayEnd, MayMeetRoamFault, roam_call_fault}
+pub use Rattle.locked_net.specs.RoamResults.{AllEnd, AllRoam, RoamResult, KeepsNote, AllKeepNotes, MayEnd, MayMeetRoamFault, roam_call_fault}
 pub use Rattle.locked_net.specs.Settings.{Setting, IsLogIn}
-pub use Rattle.locked_net.specs.declared.call_fault.CallFault.{CallFault}
-pub use Rattle.locked_net.specs.declared.call_fault.CallFault.TheVariants.{Behind, LogFull, Memory}
-pub use Rattle.locked_net.specs.declared.roam_fault.RoamFault.{RoamFault}
-pub use Rattle.locked_net.specs.declared.roam_fault.RoamFault.TheVariants.{ZeroWorkers, Thread}
-pub use Rattle.locked_net.specs.declared.settle_fault.SettleFault.{SettleFault}
+pub use Rattle.locked_net.specs.declared.fault.CallFault.{CallFault}
+pub use Rattle.locked_net.specs.declared.fault.CallFault.TheVariants.{Behind, LogFull, Memory}
+pub use Rattle.locked_net.specs.declared.fault.RoamFault.{RoamFault}
+pub use Rattle.locked_net.specs.declared.fault.RoamFault.TheVariants.{ZeroWorkers, Thread}
 pub use Rattle.logbook.specs.Pages.{Book}
 pub use Rattle.rand_core.specs.Stream.{Stream}
-pub use Rattle.rule_machine.specs.Base.{base_of, dropped}
+pub use Rattle.rule_machine.specs.Base.{dropped}
 pub use Rattle.rule_machine.specs.declared.base.Base.{Base}
 pub use Rattle.rule_machine.specs.RuleTable.{RuleTable, enabled_names}
 pub use Rattle.rule_machine.specs.Run.{Entry}
@@ -59,12 +58,12 @@ pub use Rattle.step_log.specs.Headline.{Upholds}
 pub use Rattle.step_log.specs.JournalViews.{kept_of}
 pub use Rattle.step_log.specs.RetainedLogs.{RetainedLog, IsRetainedRun, last_number, next_receipt}
 pub use Rattle.step_log.specs.declared.receipt.Receipt.{Receipt}
-pub use Rattle.storm_runner.specs.Faults.{of_call, of_settle}
+pub use Rattle.storm_runner.specs.Faults.{of_call}
 pub use Rattle.storm_runner.specs.RetainedText.{IsWritableEntry, AreWritable}
-pub use Rattle.storm_runner.specs.Outcome.{Leaves, LeavesText, EndsAllScripts, WritesKept, text_of, StormStart, start_setting}
+pub use Rattle.storm_runner.specs.Outcome.{Leaves, LeavesText, EndsAllScripts, WritesKept, StormStart, start_setting}
 pub use Rattle.storm_runner.specs.Parts.{FailsToPlay, FailsToWrite}
 pub use Rattle.storm_runner.specs.PlayedCommands.{AddsReceipts, PlayedOn, ToldOn, IsBased, AllStop, scene_of, Plays, TakesTurnsUpTo}
-pub use Rattle.storm_runner.specs.Storm.{IsFor, AreAbove, IsRoaming, IsOfStep, IsOfFault, IsPartOf, AreScriptReceipts, IsLastCheckpoint, StandsInPart, MayEndScript, is_checkpoint, has_checkpoint, AllPlayed, AllRoamed, IsStormResult, IsUnsettledStorm}
+pub use Rattle.storm_runner.specs.Storm.{IsFor, AreAbove, IsRoaming, IsOfStep, IsOfFault, IsPartOf, AreScriptReceipts, IsLastCheckpoint, StandsInPart, MayEndScript, is_checkpoint, has_checkpoint, AllPlayed, AllRoamed, IsStormResult}
 pub use Rattle.storm_runner.specs.StormRoamers.{AllRoamedOnNotes, RoamResultOfNew}
 pub use Rattle.storm_runner.specs.Turns.{Scene, IsTurn, AreTurns, DrawnFrom, IsLogBehind, TakesChosenEvent, Draw, Gains, IsIdleBehind, IsQuiet, IsEmpty}
 pub use Rattle.storm_runner.specs.declared.fault.StormFault.{StormFault}

@@ -1,17 +1,8 @@
 -- Scripts that were played in two parts.
-use Rattle.storm_runner.proofs.Prelude.{◌≡◌, ◌∙◌, ℕ, List, [], ◌∷◌, ◌++◌, take, drop, Option, None, Some, refl, sym, ap, subst, All, take-append-drop, option_or, All-nil, All-cons, All-head, All-tail, IsPrefix, Entry, ClerkView, noted, Setting, CallFault, ScriptLine, Scene, AllPlayed, AllStop, PlayedOn}
+use Rattle.storm_runner.proofs.Prelude.{◌≡◌, ℕ, List, [], ◌∷◌, ◌++◌, take, drop, Option, subst, All, take-append-drop, option_or, All-nil, All-cons, All-head, All-tail, IsPrefix, Entry, ClerkView, noted, Setting, CallFault, ScriptLine, AllPlayed, AllStop, PlayedOn}
+use Rattle.locked_net.proofs.Ends.{faults_joined}
+use Rattle.storm_runner.specs.Storm.{MayEndScript}
 use Rattle.storm_runner.proofs.LogExtension.{stop_lasts}
-
-or_assoc : {A : Type 0} (a b c : Option A) → option_or (option_or a b) c ≡ option_or a (option_or b c)
-or_assoc None b c = refl
-or_assoc (Some x) b c = refl
-
-pub all_joined : (scene : Scene) (scripts others : List (List ScriptLine)) (clerks more : List ClerkView) (fault other : Option CallFault)
-    → AllPlayed scene scripts clerks fault → AllPlayed scene others more other → AllPlayed scene (scripts ++ others) (clerks ++ more) (option_or fault other)
-all_joined scene [] others [] more fault other none played = subst (λ f. AllPlayed scene others more (option_or f other)) (sym none) played
-all_joined scene (script ∷ scripts) others (clerk ∷ clerks) more fault other (own, behind, is, stops, played) rest =
-    (own, option_or behind other, ap (λ f. option_or f other) is ∙ or_assoc own behind other, stops, all_joined scene scripts others clerks more behind other played rest)
-all_joined scene scripts others clerks more fault other played rest = absurd played
 
 -- what holds of all in a row holds of all in its parts
 pub all_left : {X : Type 0} (P : X → Type 0) (xs ys : List X) → All P (xs ++ ys) → All P xs
@@ -29,7 +20,7 @@ halves_played setting scripts left right k ours theirs fault other first front b
       let Begins = λ (clerk : ClerkView). IsPrefix (noted clerk.note) log in
       let whole : left ++ right ≡ scripts = rw (front, back) (take-append-drop k scripts) in
       subst (λ ss. AllPlayed (record { setting = setting; log = log }) ss (ours ++ theirs) first) whole
-      (rw is (all_joined (record { setting = setting; log = log }) left right ours theirs fault other (played.each log (all_left Begins ours theirs begin)) (rest.each log (all_right Begins ours theirs begin))));
+      (rw is (faults_joined (MayEndScript (record { setting = setting; log = log })) left right ours theirs fault other (played.each log (all_left Begins ours theirs begin)) (rest.each log (all_right Begins ours theirs begin))));
 }
 
 -- scripts that were played, each on the log that its clerk's note shows

@@ -1,6 +1,5 @@
 -- What scripts leave on a network that was made as asked, and what a storm that goes on does.
-use Rattle.storm_runner.proofs.Prelude.{◌≡◌, ◌∙◌, ℕ, List, Option, Some, Result, sym, subst, StormFault, EndsAllScripts, Base, RuleTable, Upholds, RetainedLog, IsRetainedRun, CallFault, OptionsView, ScriptLine, IsStormResult, Leaves, StormStart, start_setting, FailsToPlay, of_settle, IsUnsettledStorm, SettleFault, ◌≢◌}
-use Rattle.locked_net.specs.declared.settle_fault.SettleFault.TheVariants as settle
+use Rattle.storm_runner.proofs.Prelude.{◌≡◌, ◌∙◌, ℕ, List, Option, Some, Result, sym, subst, StormFault, EndsAllScripts, Base, RuleTable, Upholds, RetainedLog, IsRetainedRun, CallFault, OptionsView, ScriptLine, IsStormResult, Leaves, StormStart, start_setting}
 use Rattle.rule_machine.specs.declared.rule_set.RuleSet.{RuleSet}
 use Rattle.rule_machine.specs.Tables.{table_of, weight_of}
 use Rattle.script_run.specs.Restarts.{options_at, restart_of}
@@ -28,18 +27,3 @@ pub resumed : (restart : Restart) (asked : OptionsView) (rules : RuleSet) (texts
 resumed restart asked rules texts old new result is same ends =
     subst (λ (r : RuleSet). EndsAllScripts (table_of r) (weight_of r) (resumed_start (restart_of restart)) texts old new result) (sym is)
     (subst (λ (a : OptionsView). EndsAllScripts (table_of rules) (weight_of rules) (record { asked = a; base = base_at_start (Some restart) }) texts old new result) same ends)
-
--- the fault of settling, as the storm's
-as_fault : (t : RuleTable) (at : StormStart) (scripts : List (List ScriptLine)) (why : SettleFault) → ((why ≢ settle.Memory) → IsUnsettledStorm (start_setting t at) scripts at.asked.roamers at.asked.turns why) → FailsToPlay t at scripts (of_settle why)
-as_fault t at scripts settle.Memory there = tt
-as_fault t at scripts settle.CountDiffers there = ((λ e. cc), there (λ e. cc))
-as_fault t at scripts settle.BaseDiffers there = ((λ e. cc), there (λ e. cc))
-as_fault t at scripts (settle.Stranger clerk place) there = ((λ e. cc), there (λ e. cc))
-
--- scripts that were not settled on a network made as asked
-pub unsettled_as_asked : (t : RuleTable) (asked : OptionsView) (base : Option Base) (nodes present limit roamers turns : ℕ) (scripts : List (List ScriptLine)) (why : SettleFault) (found : StormFault) → found ≡ of_settle why → nodes ≡ asked.nodes → present ≡ asked.present → limit ≡ asked.limit → roamers ≡ asked.roamers → turns ≡ asked.turns
-    → ((why ≢ settle.Memory) → IsUnsettledStorm (record { table = t; nodes = nodes; present = present; base = base; limit = limit }) scripts roamers turns why) → FailsToPlay t (record { asked = asked; base = base }) scripts found
-unsettled_as_asked t asked base nodes present limit roamers turns scripts why found is as_many begun as_far workers each fails =
-    let at : StormStart = record { asked = asked; base = base } in
-    let there : (why ≢ settle.Memory) → IsUnsettledStorm (start_setting t at) scripts asked.roamers asked.turns why = rw (← each, ← workers, ← as_far, ← begun, ← as_many) fails in
-    subst (λ (f : StormFault). FailsToPlay t at scripts f) (sym is) (as_fault t at scripts why there)

@@ -1,8 +1,8 @@
 -- The lines that report a storm's fault.
 use Rattle.std.specs.Prelude.{ℕ, List, [], ◌++◌, codes, Result, Ok, Err}
 use Rattle.line_text.specs.Words.{number_text}
-use Rattle.locked_net.specs.declared.settle_fault.SettleFault.{SettleFault}
-use Rattle.locked_net.specs.declared.settle_fault.SettleFault.TheVariants as settle
+use Rattle.step_log.specs.declared.settle_fault.SettleFault.{SettleFault}
+use Rattle.step_log.specs.declared.settle_fault.SettleFault.TheVariants as settle
 use Rattle.storm_runner.specs.declared.fault.StormFault.{StormFault}
 use Rattle.storm_runner.specs.declared.fault.StormFault.TheVariants.{TooManyScripts, BadLine, LogFull, Read, Write, Memory, Behind, Thread, Unsettled}
 

@@ -1,8 +1,8 @@
 -- The fault of a storm that each fault of its parts becomes.
-use Rattle.locked_net.specs.declared.call_fault.CallFault.{CallFault}
-use Rattle.locked_net.specs.declared.call_fault.CallFault.TheVariants as call
-use Rattle.locked_net.specs.declared.settle_fault.SettleFault.{SettleFault}
-use Rattle.locked_net.specs.declared.settle_fault.SettleFault.TheVariants as settle
+use Rattle.locked_net.specs.declared.fault.CallFault.{CallFault}
+use Rattle.locked_net.specs.declared.fault.CallFault.TheVariants as call
+use Rattle.step_log.specs.declared.settle_fault.SettleFault.{SettleFault}
+use Rattle.step_log.specs.declared.settle_fault.SettleFault.TheVariants as settle
 use Rattle.script_text.specs.declared.fault.TextsFault.{TextsFault}
 use Rattle.script_text.specs.declared.fault.TextsFault.TheVariants as texts
 use Rattle.storm_runner.specs.declared.fault.StormFault.{StormFault}

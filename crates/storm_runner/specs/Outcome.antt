@@ -14,13 +14,13 @@ use Rattle.rule_machine.specs.RuleTable.{RuleTable}
 use Rattle.rule_machine.specs.Tables.{table_of, weight_of}
 use Rattle.byte_streams.specs.PartialOutput.{AppendsBeginning}
 use Rattle.step_log.specs.RetainedLogs.{RetainedLog, IsRetainedRun}
-use Rattle.locked_net.specs.declared.call_fault.CallFault.{CallFault}
-use Rattle.locked_net.specs.declared.call_fault.CallFault.TheVariants as call
-use Rattle.locked_net.specs.declared.settle_fault.SettleFault.{SettleFault}
-use Rattle.locked_net.specs.declared.settle_fault.SettleFault.TheVariants as settle
-use Rattle.locked_net.specs.Receipts.{base_number}
+use Rattle.locked_net.specs.declared.fault.CallFault.{CallFault}
+use Rattle.locked_net.specs.declared.fault.CallFault.TheVariants as call
+use Rattle.step_log.specs.declared.settle_fault.SettleFault.{SettleFault}
+use Rattle.step_log.specs.declared.settle_fault.SettleFault.TheVariants as settle
+use Rattle.locked_net.specs.Receipts.{base_number, receipts_of}
 use Rattle.locked_net.specs.Settings.{Setting}
-use Rattle.locked_net.specs.Headline.{Headline}
+use Rattle.step_log.specs.Headline.{Headline}
 use Rattle.script_text.specs.declared.script.ScriptLine.{ScriptLine}
 use Rattle.storm_runner.specs.Storm.{IsStormResult, IsUnsettledStorm}
 use Rattle.storm_runner.specs.RetainedText.{AreWritable, kept_text}
@@ -60,7 +60,7 @@ pub record Leaves (t : RuleTable) (weight : ℕ) (at : StormStart) (scripts : Li
   pub present_is : kept.present ≡ at.asked.present
   pub limit_is : kept.limit ≡ at.asked.limit
   pub storm : IsStormResult (start_setting t at) kept scripts at.asked.roamers at.asked.turns fault
-  pub headline : Headline (base_number at.base) t weight kept storm.clerks
+  pub headline : Headline (base_number at.base) t weight kept (map receipts_of storm.clerks)
 
 -- the text of a kept log: the header or the lines of the base, and then the entries, numbered on
 abbrev pub text_of : OptionsView → RetainedLog → List ℕ

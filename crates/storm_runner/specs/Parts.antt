@@ -4,7 +4,7 @@ use Rattle.std.specs.Io.KnownBytes.{Keeps}
 use Rattle.byte_streams.specs.PartialOutput.{AppendsBeginning}
 use Rattle.script_run.specs.RunOptions.{OptionsView}
 use Rattle.step_log.specs.RetainedLogs.{RetainedLog}
-use Rattle.locked_net.specs.declared.settle_fault.SettleFault.TheVariants as settle
+use Rattle.step_log.specs.declared.settle_fault.SettleFault.TheVariants as settle
 use Rattle.rule_machine.specs.RuleTable.{RuleTable}
 use Rattle.script_text.specs.declared.script.ScriptLine.{ScriptLine}
 use Rattle.storm_runner.specs.Outcome.{StormStart, WritesKept, start_setting}

@@ -10,7 +10,7 @@ use Rattle.locked_net.specs.ChosenEvents.{HoldsAll}
 use Rattle.locked_net.specs.Receipts.{ClerkView, front_of, seen_by, greater_base, noted}
 use Rattle.locked_net.specs.RoamResults.{FirstFault}
 use Rattle.locked_net.specs.Settings.{Setting}
-use Rattle.locked_net.specs.declared.call_fault.CallFault.{CallFault}
+use Rattle.locked_net.specs.declared.fault.CallFault.{CallFault}
 use Rattle.script_text.specs.declared.command.Command.{Command}
 use Rattle.script_text.specs.declared.command.Command.TheVariants.{Tell, Drive, Scramble, Checkpoint}
 use Rattle.script_text.specs.declared.script.ScriptLine.{ScriptLine}

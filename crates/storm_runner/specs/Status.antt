@@ -1,7 +1,7 @@
 -- The exit statuses of a storm: 0 done, 1 receipts that do not account for the log, 2 a bad line or too many
 -- scripts, 3 a failed read or write, 4 a full log, no memory, a clerk that is behind, or no thread.
 use Rattle.std.specs.Prelude.{ℕ, Result, Ok, Err}
-use Rattle.locked_net.specs.declared.settle_fault.SettleFault.TheVariants as settle
+use Rattle.step_log.specs.declared.settle_fault.SettleFault.TheVariants as settle
 use Rattle.storm_runner.specs.declared.fault.StormFault.{StormFault}
 use Rattle.storm_runner.specs.declared.fault.StormFault.TheVariants.{TooManyScripts, BadLine, LogFull, Read, Write, Memory, Behind, Thread, Unsettled}
 

@@ -22,12 +22,12 @@ use Rattle.seeded_turns.specs.DrawnEvents.{seeded_stream, drawn_step, drawn_faul
 use Rattle.script_text.specs.declared.command.Command.{Command}
 use Rattle.script_text.specs.declared.command.Command.TheVariants.{Tell, Drive, Scramble, Checkpoint}
 use Rattle.locked_net.specs.RetainedParts.{IsPartOfLog}
-use Rattle.locked_net.specs.Receipts.{ClerkView, front_from, front_of, base_from, base_number, fresh}
+use Rattle.locked_net.specs.Receipts.{ClerkView, front_from, front_of, base_from, base_number, fresh, receipts_of}
 use Rattle.locked_net.specs.Settings.{Setting}
-use Rattle.locked_net.specs.Settlements.{Settlement, Unsettles}
+use Rattle.step_log.specs.Settlements.{Settlement, Unsettles}
 use Rattle.locked_net.specs.RoamResults.{IsLoneStep, MayEnd, FirstFault}
-use Rattle.locked_net.specs.declared.call_fault.CallFault.{CallFault}
-use Rattle.locked_net.specs.declared.settle_fault.SettleFault.{SettleFault}
+use Rattle.locked_net.specs.declared.fault.CallFault.{CallFault}
+use Rattle.step_log.specs.declared.settle_fault.SettleFault.{SettleFault}
 use Rattle.script_text.specs.declared.script.ScriptLine.{ScriptLine}
 use Rattle.storm_runner.specs.Turns.{Scene, DrawnFrom, IsIdleBehind, IsQuiet, IsEmpty}
 
@@ -163,7 +163,7 @@ pub record AllTold (scene : Scene) (scripts : List (List ScriptLine)) (roamers t
 -- beginning of the whole log.
 pub record IsStormResult (setting : Setting) (kept : RetainedLog) (scripts : List (List ScriptLine)) (roamers turns : ℕ) (fault : Option CallFault) : Type 0 where
   pub clerks : List ClerkView
-  pub settled : Settlement (base_number setting.base) kept clerks
+  pub settled : Settlement (base_number setting.base) kept (map receipts_of clerks)
   pub part : IsPartOfLog setting kept
   pub told : AllTold (record { setting = setting; log = part.log.entries }) scripts roamers turns clerks fault
 
@@ -173,6 +173,6 @@ pub record IsUnsettledStorm (setting : Setting) (scripts : List (List ScriptLine
   pub kept : RetainedLog
   pub clerks : List ClerkView
   pub fault : Option CallFault
-  pub differs : Unsettles (base_number setting.base) kept clerks why
+  pub differs : Unsettles (base_number setting.base) kept (map receipts_of clerks) why
   pub part : IsPartOfLog setting kept
   pub told : AllTold (record { setting = setting; log = part.log.entries }) scripts roamers turns clerks fault

@@ -4,9 +4,9 @@ use Rattle.std.specs.List.{All}
 use Rattle.locked_net.specs.Receipts.{ClerkView, fresh, noted}
 use Rattle.locked_net.specs.Settings.{Setting}
 use Rattle.locked_net.specs.RoamResults.{FirstFault, MayEnd, roam_call_fault}
-use Rattle.locked_net.specs.declared.call_fault.CallFault.{CallFault}
-use Rattle.locked_net.specs.declared.roam_fault.RoamFault.{RoamFault}
-use Rattle.locked_net.specs.declared.roam_fault.RoamFault.TheVariants as roam
+use Rattle.locked_net.specs.declared.fault.CallFault.{CallFault}
+use Rattle.locked_net.specs.declared.fault.RoamFault.{RoamFault}
+use Rattle.locked_net.specs.declared.fault.RoamFault.TheVariants as roam
 use Rattle.storm_runner.specs.Storm.{IsRoaming}
 
 -- Each clerk took all its turns, or turns up to a fault, each on a beginning of the log that its note shows. The

@@ -7,7 +7,7 @@ ghost use Rattle.std.specs.Thread.{IsSync, IsSend};
 ghost use Rattle.locked_net.specs.Nets.{book_of, setting_of};
 ghost use Rattle.locked_net.specs.Receipts.{fresh, IsOfBook};
 ghost use Rattle.locked_net.specs.RoamResults.{roam_call_fault};
-ghost use Rattle.locked_net.specs.declared.roam_fault.RoamFault.TheVariants.{Thread};
+ghost use Rattle.locked_net.specs.declared.fault.RoamFault.TheVariants.{Thread};
 ghost use Rattle.storm_runner.specs.PlayedCommands.{PlayedOn, ToldOn};
 ghost use Rattle.storm_runner.specs.StormRoamers.{RoamResultOfNew};
 

@@ -1,9 +1,7 @@
 //! The errors of a storm.
 
-use byte_streams::OutputFault;
 use locked_net::{CallFault, SettleFault};
 use script_text::TextsFault;
-use std::alloc::AllocError;
 use thiserror::Error;
 
 /// Why a storm did not read all scripts, play each to its end, and write the log.
@@ -36,28 +34,6 @@ pub enum StormFault {
     /// The clerks' receipts do not account for the log.
     #[error("settle refused: {0}")]
     Unsettled(SettleFault),
-}
-
-impl From<AllocError> for StormFault {
-    ghost use Rattle.std.specs.Prelude.{◌≡◌};
-    ghost use Rattle.storm_runner.specs.declared.fault.StormFault.TheVariants.{Memory};
-
-    ghost from_gives = { λ _ fault. fault ≡ Memory };
-
-    fn from(_: AllocError) -> StormFault {
-        StormFault::Memory
-    }
-}
-
-impl From<OutputFault> for StormFault {
-    ghost use Rattle.std.specs.Prelude.{◌≡◌};
-    ghost use Rattle.storm_runner.specs.declared.fault.StormFault.TheVariants.{Write};
-
-    ghost from_gives = { λ _ fault. fault ≡ Write };
-
-    fn from(_: OutputFault) -> StormFault {
-        StormFault::Write
-    }
 }
 
 impl From<TextsFault> for StormFault {

@@ -26,7 +26,6 @@ mod run;
 mod split_work;
 mod storm_context;
 mod storming;
-mod text;
 mod turn_taker;
 
 pub use ending::{status, storm_end};

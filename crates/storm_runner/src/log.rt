@@ -1,13 +1,24 @@
-//! A log as a transcript.
+//! A log as a transcript, and writing it.
 
-ghost use Rattle.std.specs.Prelude.{◌≡◌, ◌+◌, ◌++◌, OnOk, OnErr};
+ghost use Rattle.std.specs.Prelude.{◌≡◌, ◌+◌, ◌++◌, OnOk, OnErr, true, IfErr, IsErrOf};
 ghost use Rattle.line_text.specs.EntryText.{entry_lines};
 ghost use Rattle.line_text.specs.Words.{Extends};
 ghost use Rattle.rule_machine.specs.Base.{dropped};
 ghost use Rattle.storm_runner.specs.RetainedText.{AreWritable, kept_text, retained_opening};
+ghost use Rattle.std.specs.Io.KnownBytes.{Appends};
+ghost use Rattle.script_run.specs.RunOptions.{asked_of};
+ghost use Rattle.step_log.specs.JournalViews.{kept_of};
+ghost use Rattle.storm_runner.specs.Outcome.{WritesKept};
+ghost use Rattle.storm_runner.specs.Parts.{FailsToWrite};
+ghost use Rattle.storm_runner.specs.declared.fault.StormFault.TheVariants.{Write as Unwritten};
 
+use crate::StormFault;
+use byte_streams::FailStopWriter;
 use line_text::{put_entry, put_header};
 use rule_machine::{RuleSet, Rules, Want};
+use script_run::Options;
+use std::alloc::Global;
+use std::io::Write;
 use step_log::Journal;
 
 fn append_entries<R: Rules>(out: &mut Vec<u8>, journal: &Journal<R>) -> Result<(), Want>
@@ -63,4 +74,26 @@ pub fn put_log<R: Rules>(
         out.truncate(len);
     }
     done
+}
+
+/// Writes the text of the log that a journal keeps. If it fails with `Memory`, nothing was written.
+pub(crate) fn write_log<R: Rules, Out: Write>(
+    alloc: Global,
+    options: &Options,
+    journal: &Journal<R>,
+    writer: &mut FailStopWriter<Out>,
+) -> Result<(), StormFault>
+    ensures ok { OnOk result (WritesKept (Appends (Out.contents writer.old.writer) (Out.contents writer.new.writer)) (asked_of options.now) (kept_of journal.now)) }
+    ensures fault { IfErr result (FailsToWrite (Out.contents writer.old.writer) (Out.contents writer.new.writer) (asked_of options.now) (kept_of journal.now)) }
+    ensures unwritten { IsErrOf result Unwritten → writer.new.failed ≡ true }
+{
+    let mut text = Vec::new(alloc);
+    let (rules, nodes, present) = (options.rules(), options.nodes(), options.present());
+    if put_log(&mut text, rules, nodes, present, journal).is_err() {
+        return Err(StormFault::Memory);
+    }
+    match writer.finish(&text) {
+        Ok(()) => Ok(()),
+        Err(_) => Err(StormFault::Write),
+    }
 }

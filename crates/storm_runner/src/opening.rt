@@ -1,6 +1,6 @@
 //! The network of a storm.
 
-ghost use Rattle.std.specs.Prelude.{◌≡◌, None, IfOk, IfSome};
+ghost use Rattle.std.specs.Prelude.{◌≡◌, IfOk, IfSome};
 ghost use Rattle.locked_net.specs.Nets.{beginning_of, first_nodes_of, log_limit_of, name_count_of};
 ghost use Rattle.rule_machine.specs.Tables.{table_of, weight_of};
 ghost use Rattle.script_run.specs.Restarts.{restart_of};
@@ -29,22 +29,9 @@ pub(crate) fn net_for<R: Rules, W: Wait>(
     ensures limit { IfOk result (λ net. log_limit_of net ≡ options.now.limit) }
     ensures beginning { IfOk result (λ net. beginning_of net ≡ base_at_start restart) }
 {
-    let Some(restart) = restart else {
-        return new_net(rt, alloc, options);
-    };
-    resumed_net(rt, alloc, restart)
-}
-
-fn new_net<R: Rules, W: Wait>(
-    rt: &W,
-    alloc: Global,
-    options: &Options,
-) -> Result<LockedNet<R>, Want>
-    ensures nodes { IfOk result (λ net. name_count_of net ≡ options.now.nodes) }
-    ensures present { IfOk result (λ net. first_nodes_of net ≡ options.now.present) }
-    ensures limit { IfOk result (λ net. log_limit_of net ≡ options.now.limit) }
-    ensures beginning { IfOk result (λ net. beginning_of net ≡ None) }
-{
+    if let Some(restart) = restart {
+        return resumed_net(rt, alloc, restart);
+    }
     let (nodes, present) = (options.nodes(), options.present());
     match LockedNet::with_present(alloc, rt, nodes, present, options.limit()) {
         Ok(net) => Ok(net),
@@ -73,5 +60,5 @@ fn resumed_net<R: Rules, W: Wait>(
     } = restart;
     let net = Net::of_state(alloc, net, spent)?;
     let journal = Journal::of_net(alloc, net, number, limit)?;
-    LockedNet::of_journal(alloc, rt, journal, limit)
+    LockedNet::of_journal(alloc, rt, journal)
 }

@@ -2,7 +2,6 @@
 
 ghost use Rattle.std.specs.Prelude.{◌≡◌, ◌<◌, IfOk, OnOk, OnErr};
 ghost use mathlib.Core.List.{IsPrefix};
-ghost use Rattle.rule_machine.specs.declared.event.Event.TheVariants.{Step};
 ghost use Rattle.locked_net.specs.Calls.{Keeps};
 ghost use Rattle.locked_net.specs.Nets.{book_of, setting_of};
 ghost use Rattle.locked_net.specs.Receipts.{HasNoteOf, IsOfBook, front_of, noted, seen_by};
@@ -12,31 +11,11 @@ ghost use Rattle.storm_runner.specs.PlayedCommands.{Plays, IsBased};
 use crate::storm_context::StormContext;
 use crate::turn_taker::{drive, recall, scramble};
 use locked_net::{CallFault, Clerk, LockedNet, StepFault};
-use rule_machine::{Choice, Event, Reply, Rules};
+use rule_machine::{Event, Reply, Rules};
 use script_text::Command;
 use std::sync::Wait;
 use std::thread::Threads;
 use steal_pool::{Gate, NoGate, paying_workers};
-
-fn step<R: Rules + Sync, G: Gate, T: Threads + Wait + Sync>(
-    rt: &T,
-    context: &StormContext<R, G>,
-    clerk: &mut Clerk,
-    choice: Choice,
-) -> Result<Reply, CallFault>
-    ensures receipt { IfOk result (λ reply. Keeps clerk.old.receipts clerk.new.receipts (Step choice) reply) }
-    ensures note { OnOk result (HasNoteOf (book_of context.now.net.now) clerk.new) }
-    ensures base { clerk.new.base ≡ clerk.old.base }
-    ensures above { OnOk result (seen_by clerk.old < front_of clerk.new.receipts) }
-    ensures kept { OnErr result (clerk.new ≡ clerk.old) }
-{
-    let workers = paying_workers(context.config.workers, choice.items().len());
-    match clerk.step_with(rt, context.net, choice, workers, &NoGate) {
-        Ok(reply) => Ok(reply),
-        Err(StepFault::Call(fault)) => Err(fault),
-        Err(StepFault::Pool(_)) => unreachable!(),
-    }
-}
 
 fn call<R: Rules + Sync, G: Gate, T: Threads + Wait + Sync>(
     rt: &T,
@@ -51,7 +30,14 @@ fn call<R: Rules + Sync, G: Gate, T: Threads + Wait + Sync>(
     ensures kept { OnErr result (clerk.new ≡ clerk.old) }
 {
     match event.clone()? {
-        Event::Step(choice) => step(rt, context, clerk, choice),
+        Event::Step(choice) => {
+            let workers = paying_workers(context.config.workers, choice.items().len());
+            match clerk.step_with(rt, context.net, choice, workers, &NoGate) {
+                Ok(reply) => Ok(reply),
+                Err(StepFault::Call(fault)) => Err(fault),
+                Err(StepFault::Pool(_)) => unreachable!(),
+            }
+        }
         event => clerk.call(rt, context.net, event),
     }
 }

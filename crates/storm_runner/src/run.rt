@@ -7,7 +7,7 @@ ghost use Rattle.step_log.specs.JournalViews.{kept_of};
 ghost use Rattle.step_log.specs.RetainedLogs.{IsRetainedRun};
 ghost use Rattle.locked_net.specs.Nets.{name_count_of, first_nodes_of, log_limit_of, setting_of};
 ghost use Rattle.locked_net.specs.Receipts.{fresh};
-ghost use Rattle.locked_net.specs.declared.settle_fault.SettleFault.TheVariants.{Memory};
+ghost use Rattle.step_log.specs.declared.settle_fault.SettleFault.TheVariants.{Memory};
 ghost use Rattle.storm_runner.specs.Storm.{IsStormResult, IsUnsettledStorm};
 
 use crate::WorkerConfig;

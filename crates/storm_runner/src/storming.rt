@@ -9,8 +9,8 @@ ghost use Rattle.storm_runner.specs.Parts.{FailsToPlay};
 ghost use Rattle.storm_runner.specs.StormStarts.{GoesOnAs, start_of};
 ghost use Rattle.storm_runner.specs.declared.fault.StormFault.TheVariants.{Write as Unwritten};
 
+use crate::log::write_log;
 use crate::opening::net_for;
-use crate::text::write_log;
 use crate::{StormFault, WorkerConfig, play_scripts};
 use byte_streams::FailStopWriter;
 use locked_net::CallFault;
@@ -39,7 +39,9 @@ fn play<R: Rules + Send + Sync, G: Gate + Sync, T: Threads + Wait + Sync>(
     ensures log { IfOk result (λ left. Leaves R.table R.NODE_WEIGHT (start_of (asked_of options.now) restart) scripts.now left.1 (kept_of left.0)) }
     ensures fault { IfErr result (FailsToPlay R.table (start_of (asked_of options.now) restart) scripts.now) }
 {
-    let net = net_for(rt, alloc, options, restart)?;
+    let Ok(net) = net_for(rt, alloc, options, restart) else {
+        return Err(StormFault::Memory);
+    };
     let config = WorkerConfig {
         workers: options.workers(),
         roamers: options.roamers(),

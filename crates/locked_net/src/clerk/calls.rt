@@ -1,18 +1,18 @@
 //! How a clerk that may call records an event and keeps the receipt.
 
-ghost use Rattle.std.specs.Prelude.{◌≡◌, ◌<◌, ◌≤◌, None, Some, IfOk, IfErr, OnOk};
+ghost use Rattle.std.specs.Prelude.{◌≡◌, ◌<◌, ◌≤◌, None, Some, IfOk, IfErr, IfSome, OnOk};
 ghost use Rattle.round_laws.specs.RoundCounts.{next_counting};
 ghost use Rattle.step_log.specs.RetainedLogs.{last_number};
 ghost use Rattle.locked_net.specs.WholeLogs.{IsWholeLog};
 ghost use Rattle.locked_net.specs.Receipts.{seen_by};
-ghost use Rattle.locked_net.specs.Calls.{call_fault, RecordsEvent};
+ghost use Rattle.locked_net.specs.Calls.{AreVerdicts, call_fault, RecordsEvent};
 ghost use Rattle.locked_net.specs.ClerkCalls.{each, HeldCall};
-ghost use Rattle.locked_net.specs.declared.call_fault.CallFault.TheVariants.{Behind, Memory};
+ghost use Rattle.locked_net.specs.declared.fault.CallFault.TheVariants.{Behind, Memory};
 
 use super::Clerk;
 use crate::CallFault;
 use crate::published_journal::{PublishedJournal, RecordedEvent};
-use rule_engine::{Event, Reply, Rules};
+use rule_engine::{Event, Reply, Rules, Verdict};
 use std::sync::Wait;
 
 impl Clerk {
@@ -53,15 +53,17 @@ impl Clerk {
         rt: &W,
         published: &mut PublishedJournal<R>,
         event: Event,
+        verdicts: Option<&[Verdict]>,
     ) -> Result<Reply, CallFault>
-        requires { call_fault (seen_by self.old) published.old.log ≡ None }
+        requires free { call_fault (seen_by self.old) published.old.log ≡ None }
+        requires judged { IfSome verdicts (λ verdicts. AreVerdicts R.table published.old.log.state event verdicts.now) }
         ensures recorded { IfOk result (RecordsEvent R.table published.old.log published.new.log self.old.receipts self.new.receipts event) }
         ensures call { HeldCall each published.old published.new self.old self.new result }
         ensures counting { IfOk result (λ reply. published.new.counting ≡ next_counting R.table reply published.new.log.state published.old.counting) }
         ensures fault { IfErr result (λ fault. fault ≡ Memory) }
     {
         self.receipts.reserve(1)?;
-        let recorded = published.record(rt, event, &mut self.receipts)?;
+        let recorded = published.record(rt, event, verdicts, &mut self.receipts)?;
         let RecordedEvent { reply, note } = recorded;
         self.note = Some(note);
         Ok(reply)

@@ -1,13 +1,13 @@
 //! A clerk's calls: each takes the network's lock, and frees it when it is done.
 
-ghost use Rattle.std.specs.Prelude.{◌≡◌, ◌≢◌, ◌<◌, IfOk, IfErr, OnOk, MatchOption};
+ghost use Rattle.std.specs.Prelude.{◌≡◌, ◌≢◌, ◌<◌, IfOk, IfErr, OnOk, MatchOption, Some, OnErr};
 ghost use Rattle.rule_machine.specs.declared.event.Event.TheVariants.{Step};
 ghost use Rattle.locked_net.specs.Nets.{book_of, setting_of};
-ghost use Rattle.locked_net.specs.Receipts.{seen_by};
+ghost use Rattle.locked_net.specs.Receipts.{seen_by, greater_base};
 ghost use Rattle.locked_net.specs.Calls.{Keeps, KeepsStep, KeepsFault};
 ghost use Rattle.locked_net.specs.ClerkCalls.{each, some_of, ClerkCall};
-ghost use Rattle.locked_net.specs.ChosenEvents.{ByDaemon, ByInjector, ClerkTakes, NoneIfEmpty, Refuses, RefusesStep};
-ghost use Rattle.locked_net.specs.declared.call_fault.CallFault.TheVariants.{Memory};
+ghost use Rattle.locked_net.specs.ChosenEvents.{ByDaemon, ByInjector, ClerkTakes, NoneIfEmpty, Refuses, RefusesStep, HoldsAll, RefusesCheckpoint};
+ghost use Rattle.locked_net.specs.declared.fault.CallFault.TheVariants.{Memory};
 
 use super::Clerk;
 use crate::{CallFault, LockedNet, StepFault};
@@ -114,5 +114,35 @@ impl Clerk {
         let answer = held.fault(rt, self, injector);
         held.free();
         answer
+    }
+
+    /// Makes the present state the base of the network's log, and returns the base's number.
+    /// All entries are dropped. The base's number is that of the last entry, dropped now or earlier; if there
+    /// was no entry, that of the network's beginning, or 0. Later entries continue the numbers. A checkpoint
+    /// is no event: it gives no receipt, and published entries stay published.
+    ///
+    /// `Behind` if the number of the log's last entry is less than what this clerk has seen; otherwise
+    /// `Memory` if memory runs out. A full log is no fault. After a fault nothing has changed.
+    /// Waits for the network's lock. Takes the memory and time of `Journal::checkpoint`.
+    pub fn checkpoint<R: Rules, W: Wait>(
+        &mut self,
+        rt: &W,
+        net: &LockedNet<R>,
+    ) -> Result<u32, CallFault>
+        ensures number { IfOk result (HoldsAll (setting_of R.table net.now) (seen_by self.old)) }
+        ensures base { IfOk result (λ number. self.new ≡ record self.old { base = greater_base self.old.base (Some number) }) }
+        ensures refused { IfErr result (RefusesCheckpoint (setting_of R.table net.now) (seen_by self.old)) }
+        ensures kept { OnErr result (self.new ≡ self.old) }
+    {
+        let mut held = net.hold(rt);
+        let answer = held.checkpoint(self);
+        held.free();
+        answer
+    }
+
+    pub(crate) fn take_base(&mut self, number: u32)
+        ensures { self.new ≡ record self.old { base = greater_base self.old.base (Some number) } }
+    {
+        self.base = self.base.max(Some(number));
     }
 }

@@ -1,10 +1,13 @@
-//! Looks at a network whose lock is held.
+//! Looks at a network whose lock is held, and its rounds.
 
-ghost use Rattle.std.specs.Prelude.{◌≡◌, IfOk};
+ghost use Rattle.std.specs.Prelude.{◌≡◌, IfOk, OnErr, OnOk};
 ghost use Rattle.locked_net.specs.CountedLogs.{CountsWholeLog};
+ghost use Rattle.rule_engine.specs.RoundsLeft.{LeavesIfCounted, rounds_left};
+ghost use Rattle.step_log.specs.RetainedLogs.{moment_in};
+ghost use Rattle.locked_net.specs.PublishedJournals.{counting_held};
 
 use crate::HeldNet;
-use rule_engine::{Net, Rules};
+use rule_engine::{Net, NodeBound, Rules, Want};
 use snapshots::{NoPlace, Note, Reader, Runs};
 use std::sync::Wait;
 
@@ -34,5 +37,27 @@ impl<R: Rules> HeldNet<'_, R> {
         ensures seen { IfOk result (λ reader. (reader.list ≡ self.old.log.entries) × (reader.learnt ≡ self.old.log.entries)) }
     {
         self.published.reader(rt)
+    }
+
+    /// Counts rounds from here on, or from here anew; then `net().rounds()` is the count.
+    /// Later holders of the lock count on. See `Net::count_rounds`, also for the cost.
+    /// `AllocError` if memory runs out; nothing has changed then.
+    pub fn count_rounds(&mut self) -> Result<(), Want>
+        ensures ok { OnOk result (self.new ≡ counting_held R.table self.old) }
+        ensures err { OnErr result (self.new ≡ self.old) }
+    {
+        self.published.count_rounds()
+    }
+}
+
+impl<R: NodeBound> HeldNet<'_, R> {
+    /// The most rounds that can still be completed before the next accepted disturbance; `None` if rounds are
+    /// not counted, 0 in silence. See `Net::rounds_left`, also for the cost.
+    pub fn rounds_left(&mut self) -> Option<u32>
+        ensures value { result ≡ rounds_left R.table R.most R.rounds self.old.log.state self.old.counting }
+        ensures left { LeavesIfCounted R.table (moment_in self.old.log) self.old.counting result }
+        ensures kept { self.new ≡ self.old }
+    {
+        self.published.rounds_left()
     }
 }

@@ -1,4 +1,4 @@
-use Rattle.locked_net.proofs.Prelude.{ℕ, Option, List, IfErr, refl, sym, subst, All, JournalView, kept_of, IsPartNoted, book_of, setting_of, ClerkView, noted, Unsettles}
+use Rattle.locked_net.proofs.Prelude.{List, refl, sym, subst, All, JournalView, kept_of, IsPartNoted, book_of, setting_of, ClerkView, noted}
 use mathlib.Core.List.{IsPrefix}
 use Rattle.locked_net.proofs.ClerkNotes.{part_noted, holds_at_ok, holds_at_err}
 use Rattle.locked_net.proofs.ending.settle_own.Goals as goal
@@ -10,7 +10,7 @@ returns-clause-noted g c =
     let last = c.into_noted-journal.result.1 in
     let begin = subst (λ (clerks : List ClerkView). All (λ clerk. IsPrefix (noted clerk.note) last.log) clerks) c.deref.ensures.value (c.if-not-all_begin.ensures.yes refl) in
     let own : IsPartNoted setting (kept_of journal) c.args.clerks.items = part_noted setting (book_of c.args.net) (kept_of journal) last c.args.clerks.items c.into_noted-journal.ensures.published begin in
-    holds_at_ok (λ (h : JournalView). IsPartNoted setting (kept_of h) c.args.clerks.items) journal c.settle_journal.result own c.settle_journal.ensures.same
+    holds_at_ok (λ (h : JournalView). IsPartNoted setting (kept_of h) c.args.clerks.items) journal c.settle_clerks.result own c.settle_clerks.ensures.same
 
 pub returns-clause-back_noted : goal.returns-clause-back_noted
 returns-clause-back_noted g c =
@@ -19,13 +19,6 @@ returns-clause-back_noted g c =
     let last = c.into_noted-journal.result.1 in
     let begin = subst (λ (clerks : List ClerkView). All (λ clerk. IsPrefix (noted clerk.note) last.log) clerks) c.deref.ensures.value (c.if-not-all_begin.ensures.yes refl) in
     let own : IsPartNoted setting (kept_of journal) c.args.clerks.items = part_noted setting (book_of c.args.net) (kept_of journal) last c.args.clerks.items c.into_noted-journal.ensures.published begin in
-    let told = c.settle_journal.ensures in
-    holds_at_err c.settle_journal.result told.back told.back
+    let told = c.settle_clerks.ensures in
+    holds_at_err c.settle_clerks.result told.back told.back
     (λ unsettled same _ why. subst (λ (h : JournalView). IsPartNoted setting (kept_of h) c.args.clerks.items) (sym same) own)
-
-pub returns-clause-fault : goal.returns-clause-fault
-returns-clause-fault g c =
-    let result = c.settle_journal.result in
-    let begun = c.start-start.result in
-    subst (λ (b : Option ℕ). IfErr result (λ unsettled. Unsettles b (kept_of unsettled.journal) c.args.clerks.items unsettled.why)) c.start-start.ensures
-    (subst (λ (clerks : List ClerkView). IfErr result (λ unsettled. Unsettles begun (kept_of unsettled.journal) clerks unsettled.why)) c.deref-2.ensures.value c.settle_journal.ensures.fault)

@@ -15,11 +15,6 @@ limit_kept number limit within few = grind arith
 pub of_state-requires-clause-unflagged : goal.of_state-requires-clause-unflagged
 of_state-requires-clause-unflagged g c none v = c.args.restart.unflagged (ap (λ (t : RuleTable). t.flags) c.requires.table ∙ none) v
 
-pub of_journal-requires-clause-limit : goal.of_journal-requires-clause-limit
-of_journal-requires-clause-limit g c =
-    let restart = c.args.restart in
-    ap (λ (k : RetainedLog). k.limit) c.in_ok-journal.ensures.kept ∙ limit_kept restart.number restart.limit restart.numbered restart.few_entries
-
 pub of_journal-requires-clause-present : goal.of_journal-requires-clause-present
 of_journal-requires-clause-present g c =
     let kept = c.in_ok-journal.ensures.kept in

@@ -9,8 +9,8 @@ returns-clause-log g c =
     let asked = asked_of c.args.options.now in
     let left = c.in_ok-play_scripts.field-0 in
     let told = c.in_ok-play_scripts.ensures in
-    let net = c.in_ok-net.net in
-    let made = c.in_ok-net.ensures in
+    let net = c.in-Ok.net in
+    let made = c.in-Ok.ensures in
     let start = ap (λ (b : Option Base). record { asked = asked; base = b }) made.beginning in
     subst (λ (at : StormStart). Leaves t weight at c.args.scripts.now left.1 (kept_of left.0)) start
     (leaves_as_asked t weight asked (beginning_of net) (name_count_of net) (first_nodes_of net) (log_limit_of net) c.roamers.result c.turns.result c.args.scripts.now left.1 (kept_of left.0) made.nodes made.present made.limit c.roamers.ensures.count c.turns.ensures.count told.run told.upheld told.size told.storm)

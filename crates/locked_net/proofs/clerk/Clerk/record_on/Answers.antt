@@ -9,7 +9,7 @@ invariant_of-self-2 g c =
     let inside = c.self.inside in
     let old : ClerkView = record { receipts = inside.receipts.items; note = inside.note; base = inside.base } in
     let told = c.in_ok-recorded.ensures in
-    let free : call_fault (seen_by old) log ≡ None = subst (λ (v : ClerkView). call_fault (seen_by v) log ≡ None) (sym c.self.view_is) c.requires in
+    let free : call_fault (seen_by old) log ≡ None = subst (λ (v : ClerkView). call_fault (seen_by v) log ≡ None) (sym c.self.view_is) c.requires.free in
     is_clerk_after g.R.Rules.table log c.record.new.self.log c.args.event c.in_ok-recorded.recorded.note old.receipts c.record.new.receipts.items (Some c.in_ok-recorded.recorded.note) inside.base c.self.invariant.rise (front_free old log free) told.log told.note.0
     (told.receipt ∙ ap (λ (rs : List Receipt). rs ++ next_receipt g.R.Rules.table log c.args.event ∷ []) c.in_ok-reserve.ensures.items) refl told.note.2
 
@@ -20,7 +20,7 @@ returns-clause-call g c =
     let old : ClerkView = record { receipts = inside.receipts.items; note = inside.note; base = inside.base } in
     let new : ClerkView = record { receipts = c.record.new.receipts.items; note = Some c.in_ok-recorded.recorded.note; base = inside.base } in
     let told = c.in_ok-recorded.ensures in
-    let free : call_fault (seen_by old) published.log ≡ None = subst (λ (v : ClerkView). call_fault (seen_by v) published.log ≡ None) (sym c.self.view_is) c.requires in
+    let free : call_fault (seen_by old) published.log ≡ None = subst (λ (v : ClerkView). call_fault (seen_by v) published.log ≡ None) (sym c.self.view_is) c.requires.free in
     subst (λ (v : ClerkView). HeldCall each published c.record.new.self v new (Ok c.in_ok-recorded.recorded.reply)) c.self.view_is
     (recorded_call g.R.Rules.table published c.record.new.self old new c.args.event c.in_ok-recorded.recorded.reply c.in_ok-recorded.recorded.note told.key free told.log told.note.0 told.note.1
     (told.receipt ∙ ap (λ (rs : List Receipt). rs ++ next_receipt g.R.Rules.table published.log c.args.event ∷ []) c.in_ok-reserve.ensures.items) refl refl)

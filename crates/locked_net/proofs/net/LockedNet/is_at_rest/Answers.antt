@@ -10,6 +10,8 @@ returns g c =
       own = c.hold-held.ensures.own;
       published = c.note.ensures.0;
       in_book = c.note.ensures.1 ∙ ap (λ (name : BoardName). name.book) c.hold-held.ensures.name;
-      rests_is = c.is_at_rest.ensures.rests ∙ ap (λ (s : State). is_at_rest t.flags s c.args.v) c.net.ensures.state;
-      idle = subst (λ (s : State). IsTrue c.is_at_rest.result → rule_at t s c.args.v ≡ None) c.net.ensures.state c.is_at_rest.ensures.idle;
+      holds = (
+        c.is_at_rest.ensures.rests ∙ ap (λ (s : State). is_at_rest t.flags s c.args.v) c.net.ensures.state,
+        subst (λ (s : State). IsTrue c.is_at_rest.result → rule_at t s c.args.v ≡ None) c.net.ensures.state c.is_at_rest.ensures.idle,
+      );
     }

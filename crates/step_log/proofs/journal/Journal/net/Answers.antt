@@ -1,5 +1,4 @@
 use Rattle.step_log.proofs.Prelude.{subst, JournalView, kept_of, Upholds}
-use Rattle.step_log.proofs.Wholes.{held_is_log}
 use Rattle.step_log.proofs.HeadlineProof.{upheld}
 use Rattle.step_log.specs.JournalRounds.{CountsKept}
 use Rattle.step_log.proofs.journal.Journal.net.Goals as goal
@@ -10,9 +9,6 @@ returns-clause-upheld g c =
     let t = g.R.Rules.table in
     let weight = g.R.Rules.NODE_WEIGHT in
     subst (λ (held : JournalView). Upholds t weight (kept_of held)) c.self.view_is (upheld t weight laws.table laws.charged laws.quiet_is_stable laws.stable_is_quiet _ c.self.invariant.journal.is_kept)
-
-pub returns-clause-log : goal.returns-clause-log
-returns-clause-log g c = held_is_log g.R.Rules.table g.R.Rules.NODE_WEIGHT _ _ c.self.view_is c.self.invariant.journal.is_kept
 
 pub returns-clause-counted : goal.returns-clause-counted
 returns-clause-counted g c =

@@ -1,5 +1,0 @@
-use Rattle.locked_net.proofs.Prelude.{◌≡◌, take, greatest_base}
-use Rattle.locked_net.proofs.settling.greatest.Given as goal
-
-abbrev pub invariant-loop-clerk : goal.invariant-loop-clerk
-invariant-loop-clerk l = l.found ≡ greatest_base l.fn.start (take l.clerk-index l.clerks)

@@ -1,5 +1,0 @@
-use Rattle.locked_net.proofs.SettlementFaults.{agrees_by_clerks}
-use Rattle.locked_net.proofs.settling.own_numbers_never_clash.Goals as goal
-
-pub returns : goal.returns
-returns c = agrees_by_clerks

@@ -1,5 +1,0 @@
-use Rattle.locked_net.proofs.Prelude.{kept_of, AreReceiptMarks}
-use Rattle.locked_net.proofs.settling.settled_with.Given as goal
-
-abbrev pub invariant-loop-clerk : goal.invariant-loop-clerk
-invariant-loop-clerk g l = AreReceiptMarks l.start (kept_of l.journal) l.clerks l.clerk 0 l.taken

@@ -1,5 +1,0 @@
-use Rattle.locked_net.proofs.SettlementFaults.{settled_not_refused}
-use Rattle.locked_net.proofs.settling.settling_is_exact.Goals as goal
-
-pub returns : goal.returns
-returns c = settled_not_refused
