@@ -7,7 +7,8 @@ usage: independent/tests/compare.py [--program PATH] [--scripts N] [--seed N]
 - tests/*.cases of the repository: each audit, and each run of a script whose words run2 has;
 - the transcripts of N random scripts, 200 without --scripts, and one damaged copy of each: both auditors
   must agree. Half of the damage mostly keeps the form of a line;
-- N/2 random scripts: run2 must write the program's bytes.
+- N/2 random scripts: run2 must write the program's bytes;
+- every network of up to three names, in every state, under every edit, fault and choice of up to two items.
 
 Without --program: CONSOLE, or else what ./console runs. Texts that programs judge differently are kept in
 out/different. The last line is `N passed, N failed, N skipped`; the exit status is 0 if some passed and none
@@ -35,7 +36,7 @@ RUN = re.compile(rb"run --rules (hh|manne) --nodes (\d+)(?: --present (\d+))?")
 TURNS = re.compile(rb"^(?:drive|scramble) ", re.M)
 # A longer text is left out: audit2 takes it, but not within seconds.
 MOST_BYTES = 1_000_000
-# The summary of engines.py and differ.py.
+# The summary of engines.py, differ.py and small_networks.py.
 SUMMARY = re.compile(r": (\d+) (?:texts|runs)\b.*?, (\d+) differ\b")
 
 
@@ -100,7 +101,7 @@ def by_rows(counts: tally.Tally, program: str) -> None:
 
 
 def by_script(counts: tally.Tally, program: str, *words: str) -> None:
-    """Counts what engines.py or differ.py compares."""
+    """Counts what another of these scripts compares."""
     environment = {**os.environ, "CONSOLE": program, "AUDIT2": AUDIT2, "RUN2": RUN2}
     command = [sys.executable, str(HERE / words[0]), *words[1:]]
     done = subprocess.run(command, env=environment, stdout=subprocess.PIPE, stderr=subprocess.STDOUT, encoding="utf-8")
@@ -133,6 +134,7 @@ def main() -> int:
     by_script(counts, program, "engines.py", str(given.seed), str(half))
     by_script(counts, program, "differ.py", str(given.seed), str(half), "1")
     by_script(counts, program, "differ.py", str(given.seed + 1), str(half), "1", "near")
+    by_script(counts, program, "small_networks.py")
     return counts.end()
 
 

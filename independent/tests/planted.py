@@ -5,9 +5,10 @@ usage: independent/tests/planted.py [--scripts N]
 
 The engine is a copy of bench/plain_engine, which writes what `console run` writes; `console` itself cannot be
 built with a mistake, as its proof would stop. First the copy is right: audit2 accepts its transcripts of N
-random scripts, 40 without --scripts, and run2 writes the same bytes. Then it has a wrong guard, a wrong
-target, or a wrong refusal: audit2 must name a reply that is not the machine's, and run2 must differ. The last
-line is `N passed, N failed`; the exit status is 0 if some passed and none failed, else 1.
+random scripts, 40 without --scripts, and of two networks of small_networks.py, and run2 writes the same
+bytes. Then it has a wrong guard, a wrong target, or a wrong refusal: of both kinds of scripts audit2 must
+name a reply that is not the machine's, and run2 must differ. The last line is `N passed, N failed`; the exit
+status is 0 if some passed and none failed, else 1.
 """
 
 from __future__ import annotations
@@ -15,6 +16,7 @@ from __future__ import annotations
 import argparse
 import contextlib
 import io
+import itertools
 import pathlib
 import random
 import re
@@ -25,6 +27,7 @@ sys.dont_write_bytecode = True
 HERE = pathlib.Path(__file__).resolve().parent
 sys.path.insert(0, str(HERE))
 import scripts  # noqa: E402
+import small_networks  # noqa: E402
 
 ENGINE = HERE.parent.parent / "bench" / "plain_engine"
 # What the plain engine lacks; and long drives, which a wrong engine need not end.
@@ -50,6 +53,16 @@ def random_runs(count: int) -> list[Run]:
         rules, nodes = chance.choice(["hh", "manne"]), chance.choice([2, 3, 4, 5, 6, 8])
         lines = [line for line in scripts.script(chance, nodes, 60) if not LACKED.match(line)]
         found.append((rules, nodes, "\n".join(lines).encode() + b"\n"))
+    return found
+
+
+def small_runs() -> list[Run]:
+    """The first lines of what small_networks.py tries on a node with two neighbours above it."""
+    found = []
+    for rules in ("hh", "manne"):
+        network = small_networks.Network(rules, 3, (1, 2, 3), ((1, 2), (1, 3)))
+        lines = [line for line in itertools.islice(network.script(), 20_000) if not LACKED.match(line)]
+        found.append((rules, 3, "\n".join(lines).encode() + b"\n"))
     return found
 
 
@@ -88,10 +101,11 @@ def main() -> int:
     parser = argparse.ArgumentParser(description=__doc__, usage=argparse.SUPPRESS)
     parser.formatter_class = argparse.RawDescriptionHelpFormatter
     parser.add_argument("--scripts", type=int, default=40, metavar="N", help="how many random scripts")
-    runs, text = random_runs(parser.parse_args().scripts), ENGINE.read_text(encoding="utf-8")
-    good = [check("no mistake", text, runs, True)]
-    for name, (old, new) in PLANTS.items():
-        good.append(text.count(old) == 1 and check(name, text.replace(old, new), runs, False))
+    text, good = ENGINE.read_text(encoding="utf-8"), []
+    for kind, runs in {"random": random_runs(parser.parse_args().scripts), "small": small_runs()}.items():
+        good.append(check(f"{kind}, no mistake", text, runs, True))
+        for name, (old, new) in PLANTS.items():
+            good.append(text.count(old) == 1 and check(f"{kind}, {name}", text.replace(old, new), runs, False))
     print(f"{good.count(True)} passed, {good.count(False)} failed")
     return 0 if all(good) else 1
 

@@ -1,5 +1,5 @@
 -- What the getters of matches read, by the rows that were found.
-use Rattle.cli_args.proofs.Prelude.{◌≡◌, ℕ, List, Option, None, Some, Result, Ok, Err, get_or, refl, sym, ap, subst, Bor, is_some, ◌∙◌, option_map, arith, ◌^◌, MatchOption, codes, ReadsOne, TriesOne, Row, Text, first_of, first_value, one_text, rows_of, Found, first_value-rows, one_text-rows, RuleSet, rules_word, Task, Run, Resume, Audit, Picture, Epochs, ResumeStorm, Show, GivesNumber, MatchesTask, HoldsNothing, HoldsPicture, HoldsNoRun, HoldsResume, HoldsRun, IsLeftOut, IsNumber, IsResumeStormTask, IsStormTask, MayGive}
+use Rattle.cli_args.proofs.Prelude.{◌≡◌, ℕ, List, Option, None, Some, Result, Ok, Err, get_or, refl, sym, ap, subst, Bor, is_some, ◌∙◌, option_map, arith, ◌^◌, MatchOption, codes, ReadsOne, TriesOne, Row, Text, first_of, first_value, one_text, rows_of, Found, first_value-rows, one_text-rows, RuleSet, rules_word, Task, Run, Resume, Audit, Picture, Epochs, ResumeStorm, Show, GivesNumber, MatchesTask, HoldsNothing, HoldsPicture, HoldsNoTask, HoldsResume, HoldsRun, IsLeftOut, IsNumber, IsResumeStormTask, IsStormTask, MayGive}
 use Rattle.cli_args.specs.declared.task.Task.TheVariants as variants
 
 -- there is no run if no rule set was given
@@ -64,46 +64,36 @@ parts_are f g (Some x) a b d e = cc
 some_same : (a b : Text) → Some a ≡ Some b → a ≡ b
 some_same a b e = cc
 
--- `run` is not `audit`
-run_audit : codes "run" ≡ codes "audit" → ⊥
-run_audit e = omega (arith, ap (λ (z : Text). get_or z 0 0) e)
-
--- nor `picture` nor `epochs` nor `storm`
-run_picture : codes "run" ≡ codes "picture" → ⊥
-run_picture e = omega (arith, ap (λ (z : Text). get_or z 0 0) e)
-
-run_epochs : codes "run" ≡ codes "epochs" → ⊥
-run_epochs e = omega (arith, ap (λ (z : Text). get_or z 0 0) e)
-
-run_storm : codes "run" ≡ codes "storm" → ⊥
-run_storm e = omega (arith, ap (λ (z : Text). get_or z 0 0) e)
+-- one word has one first letter
+pub first_same : {a b : Text} → a ≡ b → get_or a 0 0 ≡ get_or b 0 0
+first_same e = ap (λ (z : Text). get_or z 0 0) e
 
 -- nothing is asked for without a file if there is no run
-pub no_fresh : (rows : List Row) → IsLeftOut (codes "from") rows → ((r : RuleSet) (n : ℕ) (p : Option ℕ) (k : ℕ) → HoldsRun rows r n p k → ⊥) → HoldsNoRun rows
+pub no_fresh : (rows : List Row) → IsLeftOut (codes "from") rows → ((r : RuleSet) (n : ℕ) (p : Option ℕ) (k : ℕ) → HoldsRun rows r n p k → ⊥) → HoldsNoTask (codes "run") rows
 no_fresh rows out none (Run r n p k) h = none r n p k h.2
 no_fresh rows out none (Resume from k) h =
     let given = h.1.from_is in
     cc
-no_fresh rows out none Audit h = run_audit h
-no_fresh rows out none (Picture entry) h = run_picture h.0
-no_fresh rows out none Epochs h = run_epochs h
-no_fresh rows out none (variants.Storm words) h = run_storm h.0
-no_fresh rows out none (ResumeStorm words) h = run_storm h.0
+no_fresh rows out none Audit h = omega (arith, first_same h)
+no_fresh rows out none (Picture entry) h = omega (arith, first_same h.0)
+no_fresh rows out none Epochs h = omega (arith, first_same h)
+no_fresh rows out none (variants.Storm words) h = omega (arith, first_same h.0)
+no_fresh rows out none (ResumeStorm words) h = omega (arith, first_same h.0)
 no_fresh rows out none (Show text) h = h
 
 -- nor with a file, if its run has no number of workers or another argument beside it
-pub no_resumed : (rows : List Row) (file : Text) → first_of (codes "from") rows ≡ Some file → ((k : ℕ) → HoldsResume rows file k → ⊥) → HoldsNoRun rows
+pub no_resumed : (rows : List Row) (file : Text) → first_of (codes "from") rows ≡ Some file → ((k : ℕ) → HoldsResume rows file k → ⊥) → HoldsNoTask (codes "run") rows
 no_resumed rows file given none (Run r n p k) h =
     let out = h.1 in
     cc
 no_resumed rows file given none (Resume from k) h =
     let same : file ≡ from.now = some_same file from.now (sym given ∙ h.1.from_is) in
     none k (subst (λ (z : Text). HoldsResume rows z k) (sym same) h.1)
-no_resumed rows file given none Audit h = run_audit h
-no_resumed rows file given none (Picture entry) h = run_picture h.0
-no_resumed rows file given none Epochs h = run_epochs h
-no_resumed rows file given none (variants.Storm words) h = run_storm h.0
-no_resumed rows file given none (ResumeStorm words) h = run_storm h.0
+no_resumed rows file given none Audit h = omega (arith, first_same h)
+no_resumed rows file given none (Picture entry) h = omega (arith, first_same h.0)
+no_resumed rows file given none Epochs h = omega (arith, first_same h)
+no_resumed rows file given none (variants.Storm words) h = omega (arith, first_same h.0)
+no_resumed rows file given none (ResumeStorm words) h = omega (arith, first_same h.0)
 no_resumed rows file given none (Show text) h = h
 
 -- whether an argument was given
@@ -111,44 +101,23 @@ pub given_is : (f : Found) (id : Text) (o : Option (Bor Text)) → option_map (�
 given_is f id None e = ap (λ (z : Option Text). is_some z) (e ∙ first_value-rows f id)
 given_is f id (Some word) e = ap (λ (z : Option Text). is_some z) (e ∙ first_value-rows f id)
 
--- what was found for `run` is what was asked
-pub run_asked : (o : Option (Text × List Row)) (rows : List Row) (found : Option Task) → o ≡ Some (codes "run", rows) → MatchOption found (HoldsNoRun rows) (λ task. MatchesTask (Some (codes "run", rows)) task) → MatchOption found (HoldsNothing o) (λ task. MatchesTask o task)
-run_asked o rows None e none = (
+-- nor for a picture, if there is no entry
+pub no_picture : (rows : List Row) → ((entry : Option ℕ) → HoldsPicture rows entry → ⊥) → HoldsNoTask (codes "picture") rows
+no_picture rows none (Run r n p k) h = omega (arith, first_same h.0)
+no_picture rows none (Resume from k) h = omega (arith, first_same h.0)
+no_picture rows none Audit h = omega (arith, first_same h)
+no_picture rows none (Picture entry) h = none entry h.1
+no_picture rows none Epochs h = omega (arith, first_same h)
+no_picture rows none (variants.Storm words) h = omega (arith, first_same h.0)
+no_picture rows none (ResumeStorm words) h = omega (arith, first_same h.0)
+no_picture rows none (Show text) h = h
+
+-- what was found for a subcommand other than `storm` is what was asked
+pub asked : (o : Option (Text × List Row)) (name : Text) (rows : List Row) (found : Option Task) → o ≡ Some (name, rows) → (name ≡ codes "storm" → ⊥)
+    → MatchOption found (HoldsNoTask name rows) (λ task. MatchesTask (Some (name, rows)) task) → MatchOption found (HoldsNothing o) (λ task. MatchesTask o task)
+asked o name rows None e other none = (
   λ task h. none task (subst (λ (z : Option (Text × List Row)). MatchesTask z task) e h),
-  λ storm h. run_storm (subst (λ (z : Option (Text × List Row)). IsStormTask z storm) e h).0,
-  λ storm h. run_storm (subst (λ (z : Option (Text × List Row)). IsResumeStormTask z storm) e h).0,
+  λ storm h. other (subst (λ (z : Option (Text × List Row)). IsStormTask z storm) e h).0,
+  λ storm h. other (subst (λ (z : Option (Text × List Row)). IsResumeStormTask z storm) e h).0,
 )
-run_asked o rows (Some task) e held = subst (λ (z : Option (Text × List Row)). MatchesTask z task) (sym e) held
-
--- ---- a picture
-
-picture_run : codes "picture" ≡ codes "run" → ⊥
-picture_run e = omega (arith, ap (λ (z : Text). get_or z 0 0) e)
-
-picture_audit : codes "picture" ≡ codes "audit" → ⊥
-picture_audit e = omega (arith, ap (λ (z : Text). get_or z 0 0) e)
-
-picture_epochs : codes "picture" ≡ codes "epochs" → ⊥
-picture_epochs e = omega (arith, ap (λ (z : Text). get_or z 0 0) e)
-
-picture_storm : codes "picture" ≡ codes "storm" → ⊥
-picture_storm e = omega (arith, ap (λ (z : Text). get_or z 0 0) e)
-
-no_other : (rows : List Row) → ((entry : Option ℕ) → HoldsPicture rows entry → ⊥) → (task : Task) → MatchesTask (Some (codes "picture", rows)) task → ⊥
-no_other rows none (Run r n p k) h = picture_run h.0
-no_other rows none (Resume from k) h = picture_run h.0
-no_other rows none Audit h = picture_audit h
-no_other rows none (Picture entry) h = none entry h.1
-no_other rows none Epochs h = picture_epochs h
-no_other rows none (variants.Storm words) h = picture_storm h.0
-no_other rows none (ResumeStorm words) h = picture_storm h.0
-no_other rows none (Show text) h = h
-
--- what was found for `picture` is what was asked
-pub picture_asked : (o : Option (Text × List Row)) (rows : List Row) (found : Option Task) → o ≡ Some (codes "picture", rows) → MatchOption found ((entry : Option ℕ) → HoldsPicture rows entry → ⊥) (λ task. MatchesTask (Some (codes "picture", rows)) task) → MatchOption found (HoldsNothing o) (λ task. MatchesTask o task)
-picture_asked o rows None e none = (
-  λ task h. no_other rows none task (subst (λ (z : Option (Text × List Row)). MatchesTask z task) e h),
-  λ storm h. picture_storm (subst (λ (z : Option (Text × List Row)). IsStormTask z storm) e h).0,
-  λ storm h. picture_storm (subst (λ (z : Option (Text × List Row)). IsResumeStormTask z storm) e h).0,
-)
-picture_asked o rows (Some task) e held = subst (λ (z : Option (Text × List Row)). MatchesTask z task) (sym e) held
+asked o name rows (Some task) e other held = subst (λ (z : Option (Text × List Row)). MatchesTask z task) (sym e) held

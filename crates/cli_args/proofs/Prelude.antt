@@ -27,6 +27,6 @@ pub use Rattle.clap.specs.declared.parser.matches.Found.{Found}
 pub use Rattle.rule_machine.specs.Tables.{rules_word}
 pub use Rattle.rule_machine.specs.declared.rule_set.RuleSet.{RuleSet}
 pub use Rattle.rule_machine.specs.declared.rule_set.RuleSet.TheVariants.{Hh, Manne}
-pub use Rattle.cli_args.specs.TaskWords.{GivesNumber, MatchesTask, HoldsNothing, HoldsNoRun, HoldsNoStorm, HoldsResume, HoldsResumeStorm, IsLeftOut, IsResumeStormTask, ResumedStorm, WantsResumeStorm, AreRoamers, resume_storm_words, resume_words, resumed_storm_of, usual_resumed_storm, HoldsPicture, HoldsRun, IsNumber, IsStormTask, MayGive, Names, AreRules, AreWorkers, ParsesAsTask, console_app, run_words, audit_words, picture_words, epochs_words, HasInput, IsInput, ParsesOnFile, ReadsFrom, audit_file_words, epochs_file_words, HoldsStorm, Storm, storm_of, ParsesTo, WantsStorm, network_app, roaming_app}
+pub use Rattle.cli_args.specs.TaskWords.{GivesNumber, MatchesTask, HoldsNothing, HoldsNoTask, Builds, Declares, HoldsNoStorm, HoldsResume, HoldsResumeStorm, IsLeftOut, IsResumeStormTask, ResumedStorm, WantsResumeStorm, AreRoamers, resume_storm_words, resume_words, resumed_storm_of, usual_resumed_storm, HoldsPicture, HoldsRun, IsNumber, IsStormTask, MayGive, Names, AreRules, AreWorkers, ParsesAsTask, console_app, run_words, audit_words, picture_words, epochs_words, HasInput, IsInput, ParsesOnFile, ReadsFrom, audit_file_words, epochs_file_words, HoldsStorm, Storm, storm_of, ParsesTo, WantsStorm, network_app, roaming_app}
 pub use Rattle.cli_args.specs.declared.task.Task.{Task}
 pub use Rattle.cli_args.specs.declared.task.Task.TheVariants.{Run, Resume, Audit, Picture, Epochs, ResumeStorm, Show}

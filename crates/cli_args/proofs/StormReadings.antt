@@ -1,5 +1,6 @@
 -- What the words of a storm were read as.
-use Rattle.cli_args.proofs.Prelude.{◌≡◌, List, Option, None, Some, Result, Ok, Err, Bor, map, get_or, sym, ap, subst, ◌∙◌, option_map, arith, IfOk, MatchOption, codes, raw_values, Row, Text, all_of, matched_of, rows_of, Found, raw_values-rows, Task, Run, Resume, Audit, Picture, Epochs, ResumeStorm, Show, IsLeftOut, MatchesTask, HoldsNothing, HoldsNoStorm, HoldsResumeStorm, HoldsStorm, IsResumeStormTask, IsStormTask, ResumedStorm, Storm, first_of, resumed_storm_of, storm_of}
+use Rattle.cli_args.proofs.Prelude.{◌≡◌, List, Option, None, Some, Result, Ok, Err, Bor, map, sym, ap, subst, ◌∙◌, option_map, arith, IfOk, MatchOption, codes, raw_values, Row, Text, all_of, matched_of, rows_of, Found, raw_values-rows, Task, Run, Resume, Audit, Picture, Epochs, ResumeStorm, Show, IsLeftOut, MatchesTask, HoldsNothing, HoldsNoStorm, HoldsNoTask, HoldsResumeStorm, HoldsStorm, IsResumeStormTask, IsStormTask, ResumedStorm, Storm, first_of, resumed_storm_of, storm_of}
+use Rattle.cli_args.proofs.FoundMatches.{first_same}
 use Rattle.cli_args.specs.StormLoads.{HoldsLoad, Load}
 use Rattle.cli_args.specs.declared.task.Task.TheVariants as variants
 
@@ -20,19 +21,6 @@ load_resumed s = record { roamers = s.roamers; turns = s.turns; scripts = s.scri
 -- the scripts that were given
 pub scripts_are : (f : Found) (given scripts : List (Bor Text)) → Some (map (λ s. s.now) given) ≡ option_map raw_values (matched_of f (codes "SCRIPT")) → scripts ≡ given → all_of (codes "SCRIPT") (rows_of f) ≡ Some (map (λ s. s.now) scripts)
 scripts_are f given scripts e same = sym (raw_values-rows f (codes "SCRIPT")) ∙ sym e ∙ ap (λ (z : List (Bor Text)). Some (map (λ s. s.now) z)) (sym same)
-
--- `storm` is none of the others
-storm_run : codes "storm" ≡ codes "run" → ⊥
-storm_run e = omega (arith, ap (λ (z : Text). get_or z 0 0) e)
-
-storm_audit : codes "storm" ≡ codes "audit" → ⊥
-storm_audit e = omega (arith, ap (λ (z : Text). get_or z 0 0) e)
-
-storm_picture : codes "storm" ≡ codes "picture" → ⊥
-storm_picture e = omega (arith, ap (λ (z : Text). get_or z 0 0) e)
-
-storm_epochs : codes "storm" ≡ codes "epochs" → ⊥
-storm_epochs e = omega (arith, ap (λ (z : Text). get_or z 0 0) e)
 
 -- without a file, no storm goes on
 pub none_fresh : {E : Type 0} (rows : List Row) (found : Result (Option Task) E) → IsLeftOut (codes "from") rows
@@ -61,12 +49,12 @@ none_resumed rows file (Ok (Some task)) given held = held
 none_resumed rows file (Err x) given held = tt
 
 -- there is no task if there is no storm
-no_task : (rows : List Row) → HoldsNoStorm rows → (task : Task) → MatchesTask (Some (codes "storm", rows)) task → ⊥
-no_task rows none (Run r n p k) h = storm_run h.0
-no_task rows none (Resume from k) h = storm_run h.0
-no_task rows none Audit h = storm_audit h
-no_task rows none (Picture entry) h = storm_picture h.0
-no_task rows none Epochs h = storm_epochs h
+no_task : (rows : List Row) → HoldsNoStorm rows → HoldsNoTask (codes "storm") rows
+no_task rows none (Run r n p k) h = omega (arith, first_same h.0)
+no_task rows none (Resume from k) h = omega (arith, first_same h.0)
+no_task rows none Audit h = omega (arith, first_same h)
+no_task rows none (Picture entry) h = omega (arith, first_same h.0)
+no_task rows none Epochs h = omega (arith, first_same h)
 no_task rows none (variants.Storm words) h = none.0 (storm_of words) h.1
 no_task rows none (ResumeStorm words) h = none.1 (resumed_storm_of words) h.1
 no_task rows none (Show text) h = h

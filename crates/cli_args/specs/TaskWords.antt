@@ -4,7 +4,10 @@ use Rattle.std.specs.Borrow.{Bor}
 use Rattle.std.specs.Fmt.{decimal}
 use Rattle.std.specs.Str.Parse.{IsNumeral, digits_value, without_leading_plus}
 use Rattle.clap.specs.Lexer.{usize_max}
-use Rattle.clap.specs.Words.{App, Row, Rule, Text, all_of, first_of, kind_of, new_app, new_rule, one_of, subcommand_of, takes, with_rule, with_subcommand}
+use Rattle.clap.specs.Words.{App, Row, Rule, Text, all_of, app_of, first_of, kind_of, new_app, new_rule, one_of, rule_of, subcommand_of, takes, with_rule, with_subcommand}
+use Rattle.clap.specs.declared.builder.arg.Arg.{Arg}
+use Rattle.clap.specs.declared.builder.command.Command.{Command}
+use Rattle.clap.specs.declared.builder.command.Command.TheViews.{out-Command as fields_of}
 use Rattle.clap.specs.declared.builder.value_parser.ValueParser.TheVariants as vp
 use Rattle.clap.specs.declared.error.kind.ErrorKind.TheVariants.{DisplayHelp, DisplayVersion}
 use Rattle.rule_machine.specs.declared.rule_set.RuleSet.{RuleSet}
@@ -22,6 +25,14 @@ Names = Bor (List (Bor Text))
 -- the texts are the words for the rule sets
 abbrev pub AreRules : Names → Type 0
 AreRules names = map (λ s. s.now) names.now ≡ codes "hh" ∷ codes "manne" ∷ []
+
+-- the argument has this rule, and is no global argument
+abbrev pub Declares : Arg → Rule → Type 0
+Declares argument rule = (rule_of argument ≡ rule) × (argument.global ≡ false)
+
+-- the command is this one, and has no global argument
+abbrev pub Builds : Command → App → Type 0
+Builds command app = (app_of command ≡ app) × ((fields_of command).has_globals ≡ false)
 
 -- `--NAME` and one value
 abbrev pub valued_rule : Text → Rule
@@ -257,9 +268,9 @@ HoldsNothing found =
     ((task : Task) → MatchesTask found task → ⊥) × ((storm : Storm) → IsStormTask found storm → ⊥)
     × ((storm : ResumedStorm) → IsResumeStormTask found storm → ⊥)
 
--- the values of `run` are those of no task
-abbrev pub HoldsNoRun : List Row → Type 0
-HoldsNoRun found = (task : Task) → MatchesTask (Some (codes "run", found)) task → ⊥
+-- the values of this subcommand are those of no task
+abbrev pub HoldsNoTask : Text → List Row → Type 0
+HoldsNoTask name found = (task : Task) → MatchesTask (Some (name, found)) task → ⊥
 
 -- the values of `storm` are those of no storm
 abbrev pub HoldsNoStorm : List Row → Type 0

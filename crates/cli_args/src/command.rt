@@ -1,9 +1,9 @@
 //! The clap command that reads the words.
 
 ghost use Rattle.std.specs.Prelude.{◌≡◌, false, map, IfOk, codes};
-ghost use Rattle.clap.specs.Words.{app_of, new_app, rule_of};
+ghost use Rattle.clap.specs.Words.{app_of, new_app};
 ghost use Rattle.clap.specs.declared.builder.command.Command.TheViews.{out-Command as fields_of};
-ghost use Rattle.cli_args.specs.TaskWords.{AreRules, Names, console_app, entry_rule, file_rule, filed_app, from_rule, judging_app, network_app, nodes_rule, picture_app, present_rule, roam_rule, roaming_app, rules_rule, run_app, script_rule, showing_app, storm_app, strict_app, strict_from_rule, strict_run_app, strict_storm_app, top_app, turns_rule, valued_rule, without_from, workers_rule};
+ghost use Rattle.cli_args.specs.TaskWords.{AreRules, Builds, Declares, Names, console_app, entry_rule, file_rule, filed_app, from_rule, judging_app, network_app, nodes_rule, picture_app, present_rule, roam_rule, roaming_app, rules_rule, run_app, script_rule, showing_app, storm_app, strict_app, strict_from_rule, strict_run_app, strict_storm_app, top_app, turns_rule, valued_rule, without_from, workers_rule};
 
 use crate::help::{
     ABOUT, AUDIT_ABOUT, AUDIT_NOTES, AUDIT_USAGE, ENTRY_HELP, EPOCHS_ABOUT, EPOCHS_NOTES,
@@ -17,8 +17,7 @@ use std::alloc::{AllocError, Global};
 static RULES: [&str; 2] = ["hh", "manne"];
 
 fn valued_arg<'a>(alloc: Global, name: &'a str, value: &'a str, help: &'a str) -> Arg<'a>
-    ensures rule { rule_of result ≡ valued_rule name.entry.now }
-    ensures local { result.global ≡ false }
+    ensures { Declares result (valued_rule name.entry.now) }
 {
     Arg::new(alloc, name)
         .long(name)
@@ -27,8 +26,7 @@ fn valued_arg<'a>(alloc: Global, name: &'a str, value: &'a str, help: &'a str) -
 }
 
 fn rules_arg<'a>(alloc: Global, required: bool, names: &'a [&'a str]) -> Arg<'a>
-    ensures rule { rule_of result ≡ rules_rule required names.entry }
-    ensures local { result.global ≡ false }
+    ensures { Declares result (rules_rule required names.entry) }
 {
     valued_arg(alloc, "rules", "RULES", RULES_HELP)
         .required(required)
@@ -36,8 +34,7 @@ fn rules_arg<'a>(alloc: Global, required: bool, names: &'a [&'a str]) -> Arg<'a>
 }
 
 fn nodes_arg<'a>(alloc: Global, required: bool) -> Arg<'a>
-    ensures rule { rule_of result ≡ nodes_rule required }
-    ensures local { result.global ≡ false }
+    ensures { Declares result (nodes_rule required) }
 {
     valued_arg(alloc, "nodes", "N", NODES_HELP)
         .required(required)
@@ -45,15 +42,13 @@ fn nodes_arg<'a>(alloc: Global, required: bool) -> Arg<'a>
 }
 
 fn present_arg<'a>(alloc: Global) -> Arg<'a>
-    ensures rule { rule_of result ≡ present_rule }
-    ensures local { result.global ≡ false }
+    ensures { Declares result present_rule }
 {
     valued_arg(alloc, "present", "P", PRESENT_HELP).value_parser(value_parser!(u16))
 }
 
 fn workers_arg<'a>(alloc: Global) -> Arg<'a>
-    ensures rule { rule_of result ≡ workers_rule }
-    ensures local { result.global ≡ false }
+    ensures { Declares result workers_rule }
 {
     valued_arg(alloc, "workers", "K", WORKERS_HELP)
         .default_value("1")
@@ -61,22 +56,19 @@ fn workers_arg<'a>(alloc: Global) -> Arg<'a>
 }
 
 fn from_arg<'a>(alloc: Global) -> Arg<'a>
-    ensures rule { rule_of result ≡ from_rule }
-    ensures local { result.global ≡ false }
+    ensures { Declares result from_rule }
 {
     valued_arg(alloc, "from", "FILE", FROM_HELP)
 }
 
 fn file_arg<'a>(alloc: Global, value: &'a str, help: &'a str) -> Arg<'a>
-    ensures rule { rule_of result ≡ file_rule }
-    ensures local { result.global ≡ false }
+    ensures { Declares result file_rule }
 {
     Arg::new(alloc, "FILE").value_name(value).help(help)
 }
 
 fn told_command<'a>(alloc: Global, name: &'a str, about: &'a str, notes: &'a str) -> Command<'a>
-    ensures app { app_of result ≡ new_app name.entry.now }
-    ensures local { (fields_of result).has_globals ≡ false }
+    ensures { Builds result (new_app name.entry.now) }
 {
     Command::new(alloc, name).about(about).after_help(notes)
 }
@@ -88,8 +80,7 @@ fn reading_command<'a>(
     notes: &'a str,
     usage: &'a str,
 ) -> Command<'a>
-    ensures app { app_of result ≡ new_app name.entry.now }
-    ensures local { (fields_of result).has_globals ≡ false }
+    ensures { Builds result (new_app name.entry.now) }
 {
     told_command(alloc, name, about, notes).override_usage(usage)
 }
@@ -101,8 +92,7 @@ fn network_command<'a>(
     names: &'a [&'a str],
 ) -> Result<Command<'a>, AllocError>
     requires { (fields_of command).has_globals ≡ false }
-    ensures app { IfOk result (λ more. app_of more ≡ network_app (app_of command.entry) required names.entry) }
-    ensures local { IfOk result (λ more. (fields_of more).has_globals ≡ false) }
+    ensures { IfOk result (λ more. Builds more (network_app (app_of command.entry) required names.entry)) }
 {
     command
         .arg(rules_arg(alloc, required, names))?
@@ -112,8 +102,7 @@ fn network_command<'a>(
 }
 
 fn run_command<'a>(alloc: Global, names: &'a [&'a str]) -> Result<Command<'a>, AllocError>
-    ensures app { IfOk result (λ run. app_of run ≡ run_app names.entry) }
-    ensures local { IfOk result (λ run. (fields_of run).has_globals ≡ false) }
+    ensures { IfOk result (λ run. Builds run (run_app names.entry)) }
 {
     let run = reading_command(alloc, "run", RUN_ABOUT, RUN_NOTES, RUN_USAGE);
     network_command(alloc, run, false, names)?
@@ -128,15 +117,13 @@ fn filed_command<'a>(
     notes: &'a str,
     usage: &'a str,
 ) -> Result<Command<'a>, AllocError>
-    ensures app { IfOk result (λ filed. app_of filed ≡ filed_app name.entry.now) }
-    ensures local { IfOk result (λ filed. (fields_of filed).has_globals ≡ false) }
+    ensures { IfOk result (λ filed. Builds filed (filed_app name.entry.now)) }
 {
     reading_command(alloc, name, about, notes, usage).arg(file_arg(alloc, "FILE", FILE_HELP))
 }
 
 fn entry_arg<'a>(alloc: Global) -> Arg<'a>
-    ensures rule { rule_of result ≡ entry_rule }
-    ensures local { result.global ≡ false }
+    ensures { Declares result entry_rule }
 {
     valued_arg(alloc, "entry", "K", ENTRY_HELP).value_parser(value_parser!(u32).range(
         ..=16_777_216,
@@ -144,8 +131,7 @@ fn entry_arg<'a>(alloc: Global) -> Arg<'a>
 }
 
 fn picture_command<'a>(alloc: Global) -> Result<Command<'a>, AllocError>
-    ensures app { IfOk result (λ picture. app_of picture ≡ picture_app) }
-    ensures local { IfOk result (λ picture. (fields_of picture).has_globals ≡ false) }
+    ensures { IfOk result (λ picture. Builds picture picture_app) }
 {
     reading_command(
         alloc,
@@ -159,8 +145,7 @@ fn picture_command<'a>(alloc: Global) -> Result<Command<'a>, AllocError>
 }
 
 fn roam_arg<'a>(alloc: Global) -> Arg<'a>
-    ensures rule { rule_of result ≡ roam_rule }
-    ensures local { result.global ≡ false }
+    ensures { Declares result roam_rule }
 {
     valued_arg(alloc, "roam", "W", ROAM_HELP)
         .default_value("0")
@@ -168,8 +153,7 @@ fn roam_arg<'a>(alloc: Global) -> Arg<'a>
 }
 
 fn turns_arg<'a>(alloc: Global) -> Arg<'a>
-    ensures rule { rule_of result ≡ turns_rule }
-    ensures local { result.global ≡ false }
+    ensures { Declares result turns_rule }
 {
     valued_arg(alloc, "turns", "T", TURNS_HELP)
         .default_value("1000")
@@ -177,8 +161,7 @@ fn turns_arg<'a>(alloc: Global) -> Arg<'a>
 }
 
 fn script_arg<'a>(alloc: Global) -> Arg<'a>
-    ensures rule { rule_of result ≡ script_rule }
-    ensures local { result.global ≡ false }
+    ensures { Declares result script_rule }
 {
     Arg::new(alloc, "SCRIPT")
         .required(true)
@@ -188,8 +171,7 @@ fn script_arg<'a>(alloc: Global) -> Arg<'a>
 
 fn roaming_command<'a>(alloc: Global, command: Command<'a>) -> Result<Command<'a>, AllocError>
     requires { (fields_of command).has_globals ≡ false }
-    ensures app { IfOk result (λ more. app_of more ≡ roaming_app (app_of command.entry)) }
-    ensures local { IfOk result (λ more. (fields_of more).has_globals ≡ false) }
+    ensures { IfOk result (λ more. Builds more (roaming_app (app_of command.entry))) }
 {
     command
         .arg(roam_arg(alloc))?
@@ -198,8 +180,7 @@ fn roaming_command<'a>(alloc: Global, command: Command<'a>) -> Result<Command<'a
 }
 
 fn storm_command<'a>(alloc: Global, names: &'a [&'a str]) -> Result<Command<'a>, AllocError>
-    ensures app { IfOk result (λ storm. app_of storm ≡ storm_app names.entry) }
-    ensures local { IfOk result (λ storm. (fields_of storm).has_globals ≡ false) }
+    ensures { IfOk result (λ storm. Builds storm (storm_app names.entry)) }
 {
     let storm = reading_command(alloc, "storm", STORM_ABOUT, STORM_NOTES, STORM_USAGE);
     let storm = network_command(alloc, storm, false, names)?.arg(from_arg(alloc))?;
@@ -251,9 +232,8 @@ pub(crate) fn command<'a>(alloc: Global) -> Result<Command<'a>, AllocError>
 }
 
 fn strict_from<'a>(alloc: Global) -> Result<Arg<'a>, AllocError>
-    ensures rule { IfOk result (λ from. rule_of from ≡ strict_from_rule) }
+    ensures rule { IfOk result (λ from. Declares from strict_from_rule) }
     ensures excluded { IfOk result (λ from. map (λ id. id.now) from.conflicts.items ≡ without_from) }
-    ensures local { IfOk result (λ from. from.global ≡ false) }
 {
     from_arg(alloc)
         .conflicts_with("rules")?
@@ -266,8 +246,7 @@ fn strict_run<'a>(
     required: bool,
     names: &'a [&'a str],
 ) -> Result<Command<'a>, AllocError>
-    ensures app { IfOk result (λ run. app_of run ≡ strict_run_app required names.entry) }
-    ensures local { IfOk result (λ run. (fields_of run).has_globals ≡ false) }
+    ensures { IfOk result (λ run. Builds run (strict_run_app required names.entry)) }
 {
     let run = told_command(alloc, "run", RUN_ABOUT, RUN_NOTES);
     network_command(alloc, run, required, names)?
@@ -280,8 +259,7 @@ fn strict_storm<'a>(
     required: bool,
     names: &'a [&'a str],
 ) -> Result<Command<'a>, AllocError>
-    ensures app { IfOk result (λ storm. app_of storm ≡ strict_storm_app required names.entry) }
-    ensures local { IfOk result (λ storm. (fields_of storm).has_globals ≡ false) }
+    ensures { IfOk result (λ storm. Builds storm (strict_storm_app required names.entry)) }
 {
     let storm = told_command(alloc, "storm", STORM_ABOUT, STORM_NOTES);
     let storm = network_command(alloc, storm, required, names)?;

@@ -36,20 +36,20 @@ fn goes_on(found: &ArgMatches<'_>) -> bool
 }
 
 // Why words that clap took ask for no task: arguments of `run` or `storm` that do not go together, or are
-// missing.
-fn mistake<'a, S: AsStr>(
+// missing. Or memory ran out.
+fn refuse<'a, S: AsStr>(
     alloc: Global,
     found: &ArgMatches<'a>,
     words: &'a [S],
-) -> Result<Error, Error>
-    ensures mistake { IfOk result (λ e. IsMistake (kind_of e)) }
-    ensures memory { IfErr result (λ e. kind_of e ≡ OutOfMemory) }
+) -> Result<Request<'a>, Error>
+    ensures none { IfOk result (λ request. ⊥) }
+    ensures mistake { IfErr result (λ e. IsMistake (kind_of e)) }
 {
     let mut command = strict_command(alloc, !goes_on(found))?;
     match command.try_get_matches_from_mut(words) {
-        Err(error) if error.use_stderr() => Ok(error),
-        Err(_shown) => Ok(command.error(ErrorKind::ValueValidation, "no such task")?),
-        Ok(_found) => Ok(command.error(ErrorKind::ValueValidation, "no such task")?),
+        Err(error) if error.use_stderr() => Err(error),
+        Err(_shown) => Err(command.error(ErrorKind::ValueValidation, "no such task")?),
+        Ok(_found) => Err(command.error(ErrorKind::ValueValidation, "no such task")?),
     }
 }
 
@@ -73,7 +73,7 @@ pub fn read_words<'a, S: AsStr>(alloc: Global, words: &'a [S]) -> Result<Request
                 task,
                 file: input(&found),
             }),
-            Ok(None) => Err(mistake(alloc, &found, words)?),
+            Ok(None) => refuse(alloc, &found, words),
             Err(error) => Err(error),
         },
         Err(error) if error.use_stderr() => Err(error),

@@ -5,7 +5,7 @@ ghost use Rattle.clap.specs.Words.{first_of, found_of, kind_of, rows_of, subcomm
 ghost use Rattle.clap.specs.declared.error.kind.ErrorKind.TheVariants.{OutOfMemory};
 ghost use Rattle.rule_machine.specs.declared.rule_set.RuleSet.{RuleSet};
 ghost use Rattle.rule_machine.specs.Tables.{rules_word};
-ghost use Rattle.cli_args.specs.TaskWords.{GivesNumber, HoldsPicture, HasInput, HoldsNoRun, HoldsRun, IsInput, IsLeftOut, MatchesTask, HoldsNothing, present_at_start};
+ghost use Rattle.cli_args.specs.TaskWords.{GivesNumber, HasInput, HoldsNoTask, HoldsRun, IsInput, IsLeftOut, MatchesTask, HoldsNothing, present_at_start};
 
 use crate::storm_words::{ResumeStormWords, StormWords, storm_task};
 use clap::{ArgMatches, Error};
@@ -101,7 +101,7 @@ pub(crate) fn is_given(found: &ArgMatches<'_>, id: &str) -> bool
 
 fn fresh_run<'a>(run: &ArgMatches<'a>) -> Option<Task<'a>>
     requires { IsLeftOut (codes "from") (rows_of (found_of run.now)) }
-    ensures { MatchOption result (HoldsNoRun (rows_of (found_of run.now)))
+    ensures { MatchOption result (HoldsNoTask (codes "run") (rows_of (found_of run.now)))
         (λ task. MatchesTask (Some (codes "run", rows_of (found_of run.now))) task) }
 {
     let Some((rules, nodes, present, workers)) = network(run) else {
@@ -117,7 +117,7 @@ fn fresh_run<'a>(run: &ArgMatches<'a>) -> Option<Task<'a>>
 
 fn resumed_run<'a>(run: &ArgMatches<'a>, from: &'a str) -> Option<Task<'a>>
     requires { first_of (codes "from") (rows_of (found_of run.now)) ≡ Some from.now }
-    ensures { MatchOption result (HoldsNoRun (rows_of (found_of run.now)))
+    ensures { MatchOption result (HoldsNoTask (codes "run") (rows_of (found_of run.now)))
         (λ task. MatchesTask (Some (codes "run", rows_of (found_of run.now))) task) }
 {
     if is_given(run, "rules") || is_given(run, "nodes") || is_given(run, "present") {
@@ -130,7 +130,7 @@ fn resumed_run<'a>(run: &ArgMatches<'a>, from: &'a str) -> Option<Task<'a>>
 }
 
 fn run_task<'a>(run: &ArgMatches<'a>) -> Option<Task<'a>>
-    ensures { MatchOption result (HoldsNoRun (rows_of (found_of run.now)))
+    ensures { MatchOption result (HoldsNoTask (codes "run") (rows_of (found_of run.now)))
         (λ task. MatchesTask (Some (codes "run", rows_of (found_of run.now))) task) }
 {
     match run.get_str("from") {
@@ -141,7 +141,7 @@ fn run_task<'a>(run: &ArgMatches<'a>) -> Option<Task<'a>>
 
 fn picture_task<'a>(picture: &ArgMatches<'a>) -> Option<Task<'a>>
     ensures { MatchOption result
-        ((entry : Option ℕ) → HoldsPicture (rows_of (found_of picture.now)) entry → ⊥)
+        (HoldsNoTask (codes "picture") (rows_of (found_of picture.now)))
         (λ task. MatchesTask (Some (codes "picture", rows_of (found_of picture.now))) task) }
 {
     match picture.try_get_one::<u32>("entry") {

@@ -1,10 +1,11 @@
-//! Tests of many calls: the engine against the plain machine, and a full store of edges. And the example that
+//! Tests of many calls: the engine against the judge, and a full store of edges. And the example that
 //! docs/LIBRARIES.md shows.
 //!
 //! Each `#[test]` here but that of the example is a loop that would be slow as a program of rows. The loops go
 //! through every network of up to three nodes, in every state and under every choice of up to two items;
-//! through drawn runs of 20 and 50 nodes; and through a store with all its 1,048,576 edges. The engine and the
-//! auditor's `reply_checker` are compared with `reference_model`, which computes the definitions.
+//! through drawn runs of 20 and 50 nodes; and through a store with all its 1,048,576 edges. The auditor's
+//! `reply_checker` judges each reply of the engine: it accepts the reply, and refuses it changed. The same
+//! small networks are compared with an engine made in Coq by `independent/tests/small_networks.py`.
 //!
 //! `two_threads` is the example of docs/LIBRARIES.md, word for word; `tests/readme` compares the two. It shows
 //! how a Rattle program combines `locked_net` with a rule set: two clerks in two threads edit one network
@@ -25,9 +26,9 @@ mod full_store;
 #[cfg(test)]
 mod helpers;
 #[cfg(test)]
-mod long_runs;
+mod judged_net;
 #[cfg(test)]
-mod machines;
+mod long_runs;
 #[cfg(test)]
 mod small_networks;
 #[cfg(test)]

@@ -1,6 +1,6 @@
-//! Long runs of drawn events on the engine, compared with the plain machine.
+//! Long runs of drawn events on the engine, whose replies are judged.
 
-use crate::machines::{Plain, net_of, plain_of};
+use crate::judged_net::JudgedNet;
 use rand_core::{Rng, SeedableRng};
 use rand_pcg::Pcg32;
 use rule_engine::{Choice, Event, Item, Net, Node, RuleSet, Rules};
@@ -58,54 +58,45 @@ fn drawn_event<R: Rules>(
     }
 }
 
-fn agree<R: Rules>(
-    rt: &impl Abort,
-    alloc: Global,
-    net: &mut Net<R>,
-    plain: &mut Plain,
-    event: &Event,
-) {
-    let reply = net.apply(event).expect(rt, "memory");
-    assert!(rt; reply == plain.answer(rt, alloc, event));
+fn ask<R: Rules>(rt: &impl Abort, alloc: Global, judged: &mut JudgedNet<R>, event: &Event) {
+    let reply = judged.net.apply(event).expect(rt, "memory");
+    assert!(rt; judged.judges(rt, alloc, event, &reply), "{event:?}");
 }
 
-/// Checks twenty drawn events: the engine and the plain machine give the same replies.
-///
-/// After each event both list the same enabled nodes; at the end both have the same counts.
+/// Checks twenty drawn events, after each the enabled nodes, and at the end the pairs and the counts.
 fn agree_a_while<R: Rules>(
     rt: &impl Abort,
     alloc: Global,
     generator: &mut Pcg32,
-    net: &mut Net<R>,
-    plain: &mut Plain,
+    judged: &mut JudgedNet<R>,
     nodes: u16,
 ) {
     for _ in 0..20 {
-        let event = drawn_event(rt, alloc, generator, net, nodes);
-        agree(rt, alloc, net, plain, &event);
-        agree(rt, alloc, net, plain, &Event::Enabled);
+        let event = drawn_event(rt, alloc, generator, &judged.net, nodes);
+        ask(rt, alloc, judged, &event);
+        ask(rt, alloc, judged, &Event::Enabled);
     }
-    agree(rt, alloc, net, plain, &Event::Status);
+    ask(rt, alloc, judged, &Event::Matching);
+    ask(rt, alloc, judged, &Event::Status);
 }
 
 fn agree_along<R: Rules>(rt: &impl Abort, alloc: Global, rules: RuleSet, nodes: u16, seed: u64) {
-    let mut net = net_of::<R>(rt, alloc, u32::from(nodes));
-    let mut plain = plain_of(rt, alloc, rules, nodes);
+    let mut judged = JudgedNet::<R>::new(rt, alloc, rules, nodes, nodes);
     let mut generator = Pcg32::seed_from_u64(seed);
     for _ in 0..30 {
-        agree_a_while(rt, alloc, &mut generator, &mut net, &mut plain, nodes);
+        agree_a_while(rt, alloc, &mut generator, &mut judged, nodes);
     }
 }
 
 #[test]
-fn the_engine_agrees_along_runs_of_hsu_huang(rt: HostRuntime) {
+fn the_judge_agrees_along_runs_of_hsu_huang(rt: HostRuntime) {
     for (nodes, seed) in [(20, 1), (50, 2)] {
         agree_along::<HsuHuang>(&rt, rt.alloc(), RuleSet::Hh, nodes, seed);
     }
 }
 
 #[test]
-fn the_engine_agrees_along_runs_of_manne(rt: HostRuntime) {
+fn the_judge_agrees_along_runs_of_manne(rt: HostRuntime) {
     for (nodes, seed) in [(20, 3), (50, 4)] {
         agree_along::<Manne>(&rt, rt.alloc(), RuleSet::Manne, nodes, seed);
     }

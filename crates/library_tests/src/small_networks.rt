@@ -1,5 +1,5 @@
-//! Every network of up to three names in every state, under every small choice: the engine, plain machine and
-//! judge compared.
+//! Every network of up to three names in every state, under every small choice: the engine and the judge
+//! compared.
 //!
 //! Any of the n names may be present. An item has one of n + 1 names, the last above the capacity, and either
 //! no wish or one of these names. So there are i = (n + 1)(n + 2) items and 1 + i + i·i choices of up to two;
@@ -16,9 +16,8 @@
 ghost use Rattle.std.specs.Prelude.{◌<◌};
 
 use crate::helpers::named;
-use crate::machines::{Plain, moves_in, net_with, plain_with};
-use reply_checker::Judge;
-use rule_engine::{Choice, Event, Item, Net, Node, Refusal, Reply, RuleSet, Rules};
+use crate::judged_net::{JudgedNet, moves_in};
+use rule_engine::{Choice, Event, Item, Node, Reply, RuleSet, Rules};
 use rules_hsu_huang::HsuHuang;
 use rules_manne::Manne;
 use std::alloc::Global;
@@ -41,55 +40,41 @@ enum Kind {
     Other,
 }
 
-/// A network of the engine, the same network of the plain machine, the judge, and their common state.
+/// A network with its judge, and their state.
 ///
 /// The state is a number. For each node it has a base-4 digit for the pointer and then, if the rules have
 /// flags, a bit for the flag.
 #[derive(Drop)]
-struct Twins<R: Rules> {
-    net: Net<R>,
-    plain: Plain,
-    judge: Judge,
+struct SmallNet<R: Rules> {
+    judged: JudgedNet<R>,
     names: Names,
     edges: u32,
     state: u32,
 }
 
-impl<R: Rules> Twins<R> {
-    /// A network of the engine and one of the plain machine, both without nodes.
-    fn new(rt: &impl Abort, alloc: Global, rules: RuleSet, names: Names, edges: u32) -> Twins<R> {
-        let all = u32::from(names.all);
-        let judge = Judge::with_present(alloc, all, 0);
-        Twins {
-            net: net_with(rt, alloc, all, 0),
-            plain: plain_with(rt, alloc, rules, u16::from(names.all), 0),
-            judge: judge.expect(rt, "memory"),
+impl<R: Rules> SmallNet<R> {
+    /// A network without nodes.
+    fn new(
+        rt: &impl Abort,
+        alloc: Global,
+        rules: RuleSet,
+        names: Names,
+        edges: u32,
+    ) -> SmallNet<R> {
+        SmallNet {
+            judged: JudgedNet::new(rt, alloc, rules, u16::from(names.all), 0),
             names,
             edges,
             state: 0,
         }
     }
 
-    /// Asks the judge whether the event is refused, and whether the reply is right.
-    fn judge(&mut self, rt: &impl Abort, spent: u64, event: &Event, reply: &Reply) {
-        let refusal = Reply::Refused(Refusal::NotEnabled);
-        let refused = self.judge.replay(self.plain.rules, spent, event, &refusal);
-        assert!(rt;
-            refused.expect(rt, "memory") == (*reply == refusal),
-            "{event:?}"
-        );
-        let right = self.judge.replay(self.plain.rules, spent, event, reply);
-        assert!(rt; right.expect(rt, "memory"), "{event:?}");
-    }
-
     fn ask(&mut self, rt: &impl Abort, alloc: Global, event: Event) -> Kind {
-        let spent = u64::from(self.net.spent());
-        let reply = self.net.apply(&event).expect(rt, "memory");
-        self.judge(rt, spent, &event, &reply);
-        let same = self.plain.answer(rt, alloc, &event) == reply;
+        let reply = self.judged.net.apply(&event).expect(rt, "memory");
+        let is_right = self.judged.judges(rt, alloc, &event, &reply);
         let (edges, state) = (self.edges, self.state);
         assert!(rt;
-            same,
+            is_right,
             "{event:?} at the edges {edges} and the state {state}"
         );
         match reply {
@@ -99,7 +84,7 @@ impl<R: Rules> Twins<R> {
         }
     }
 
-    /// Whether both machines accept a change.
+    /// Whether a change is accepted.
     fn change(&mut self, rt: &impl Abort, alloc: Global, event: Event) -> bool {
         self.ask(rt, alloc, event) == Kind::Accepted
     }
@@ -163,7 +148,7 @@ impl<R: Rules> Twins<R> {
 
     /// Checks that the charge has fallen by at least the moves made.
     fn expect_paid(&mut self, rt: &impl Abort, before: u32, moves: u32) {
-        let after = self.net.charge();
+        let after = self.judged.net.charge();
         assert!(rt;
             after.saturating_add(moves) <= before,
             "{moves} moves from the charge {before} to {after}"
@@ -173,7 +158,7 @@ impl<R: Rules> Twins<R> {
     /// If nodes move, checks the charge, asks all questions, and restores the state.
     fn step(&mut self, rt: &impl Abort, alloc: Global, number: u32) {
         let choice = choice_of(rt, alloc, self.names.all, number);
-        let charge = self.net.charge();
+        let charge = self.judged.net.charge();
         if let Kind::Moves(moves) = self.ask(rt, alloc, Event::Step(choice)) {
             self.expect_paid(rt, charge, moves);
             self.look(rt, alloc);
@@ -227,12 +212,12 @@ fn is_first(nodes: u8, number: u32) -> bool {
 }
 
 /// Tries every choice of up to two items; returns how many it tried.
-fn try_pairs<R: Rules>(rt: &impl Abort, alloc: Global, twins: &mut Twins<R>) -> u64 {
-    let nodes = twins.names.all;
+fn try_pairs<R: Rules>(rt: &impl Abort, alloc: Global, small: &mut SmallNet<R>) -> u64 {
+    let nodes = small.names.all;
     let mut tried = 0u64;
     for number in 0..two_digits(nodes) {
         if is_first(nodes, number) {
-            twins.step(rt, alloc, number);
+            small.step(rt, alloc, number);
             tried = tried.wrapping_add(1);
         }
     }
@@ -240,7 +225,7 @@ fn try_pairs<R: Rules>(rt: &impl Abort, alloc: Global, twins: &mut Twins<R>) -> 
 }
 
 /// Tries all six orders of three nodes in the state; returns how many choices were tried.
-fn try_orders<R: Rules>(rt: &impl Abort, alloc: Global, twins: &mut Twins<R>) -> u64 {
+fn try_orders<R: Rules>(rt: &impl Abort, alloc: Global, small: &mut SmallNet<R>) -> u64 {
     for (a, b, c) in [
         (1, 6, 11),
         (1, 11, 6),
@@ -249,34 +234,34 @@ fn try_orders<R: Rules>(rt: &impl Abort, alloc: Global, twins: &mut Twins<R>) ->
         (11, 1, 6),
         (11, 6, 1),
     ] {
-        twins.step(rt, alloc, a + 21 * b + 441 * c);
+        small.step(rt, alloc, a + 21 * b + 441 * c);
     }
     6
 }
 
 /// Tries every choice, if the state is valid; returns how many it tried.
-fn try_state<R: Rules>(rt: &impl Abort, alloc: Global, twins: &mut Twins<R>) -> u64 {
-    if !twins.set(rt, alloc) {
+fn try_state<R: Rules>(rt: &impl Abort, alloc: Global, small: &mut SmallNet<R>) -> u64 {
+    if !small.set(rt, alloc) {
         return 0;
     }
-    twins.look(rt, alloc);
-    let tried = try_pairs(rt, alloc, twins);
-    if twins.names.all < 3 {
+    small.look(rt, alloc);
+    let tried = try_pairs(rt, alloc, small);
+    if small.names.all < 3 {
         return tried;
     }
-    tried.wrapping_add(try_orders(rt, alloc, twins))
+    tried.wrapping_add(try_orders(rt, alloc, small))
 }
 
 /// Tries every state, if the edges join present nodes; returns how many choices it tried.
-fn try_states<R: Rules>(rt: &impl Abort, alloc: Global, twins: &mut Twins<R>) -> u64 {
-    twins.join(rt, alloc);
-    if !twins.link(rt, alloc) {
+fn try_states<R: Rules>(rt: &impl Abort, alloc: Global, small: &mut SmallNet<R>) -> u64 {
+    small.join(rt, alloc);
+    if !small.link(rt, alloc) {
         return 0;
     }
     let mut tried = 0u64;
     for state in 0..512 {
-        twins.state = state;
-        tried = tried.wrapping_add(try_state(rt, alloc, twins));
+        small.state = state;
+        tried = tried.wrapping_add(try_state(rt, alloc, small));
     }
     tried
 }
@@ -289,8 +274,8 @@ fn try_network<R: Rules>(
     names: Names,
     edges: u32,
 ) -> u64 {
-    let mut twins = Twins::<R>::new(rt, alloc, rules, names, edges);
-    try_states(rt, alloc, &mut twins)
+    let mut small = SmallNet::<R>::new(rt, alloc, rules, names, edges);
+    try_states(rt, alloc, &mut small)
 }
 
 /// Tries every network with these names and `count` edges, and checks how many choices were tried.

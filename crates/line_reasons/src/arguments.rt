@@ -1,7 +1,7 @@
 //! Why a command does not take the words after it.
 
 use crate::argument::Argument;
-use crate::command_word::CommandWord;
+use crate::command_word::Command;
 use crate::reason::Reason;
 use line_text::read_number;
 use rule_machine::MAX_ITEMS;
@@ -35,13 +35,13 @@ fn why_no_word(text: &[u8], argument: Argument) -> Option<Reason<'_>> {
     if text == b"0".as_slice() || text == b"1".as_slice() {
         return None;
     }
-    Some(Reason::NoBit(text))
+    Some(Reason::OfWord(text, b" is not 0 or 1"))
 }
 
 fn why_no_item(text: &[u8]) -> Option<Reason<'_>> {
     let wishes = text.iter().filter(|byte| **byte == b'>').count();
     if wishes > 1 {
-        return Some(Reason::NoPair(text));
+        return Some(Reason::OfWord(text, b" is not A>B, a node that moves and its target"));
     }
     for part in text.split(|byte| *byte == b'>') {
         let why = why_no_word(part, Argument::Node);
@@ -63,7 +63,7 @@ fn why_no_argument(text: &[u8], argument: Argument) -> Option<Reason<'_>> {
 
 fn why_no_items(texts: &[u8], count: usize) -> Option<Reason<'_>> {
     if count > MAX_ITEMS {
-        return Some(Reason::ManyItems);
+        return Some(Reason::Limit(b"a step has at most ", MAX_ITEMS, b" items"));
     }
     if count == 0 {
         return None;
@@ -88,19 +88,16 @@ fn why_not_these<'a>(texts: &'a [u8], arguments: &[Argument]) -> Option<Reason<'
 }
 
 /// Why the command does not take these texts, `count` words with a space between each two.
-pub(crate) fn why_not_taken(
-    command: CommandWord,
-    texts: &[u8],
-    count: usize,
-) -> Option<Reason<'_>> {
-    if command == CommandWord::Step {
+pub(crate) fn why_not_taken(command: Command, texts: &[u8], count: usize) -> Option<Reason<'_>> {
+    let (name, arguments) = command;
+    if name == b"step".as_slice() {
         return why_no_items(texts, count);
     }
-    if count == command.arguments().len() {
-        return why_not_these(texts, command.arguments());
+    if count == arguments.len() {
+        return why_not_these(texts, arguments);
     }
     if texts.contains(&b',') {
-        return Some(Reason::Comma);
+        return Some(Reason::Plain(b"there is a comma: words are separated by one space"));
     }
     Some(Reason::WordCount(command, count))
 }

@@ -14,7 +14,7 @@ fn is_odd(byte: u8) -> bool {
 fn why_odd(line: &[u8]) -> Option<Reason<'_>> {
     for &byte in line {
         if byte == b'\t' {
-            return Some(Reason::Tab);
+            return Some(Reason::Plain(b"there is a tab: words are separated by one space"));
         }
         if is_odd(byte) {
             return Some(Reason::OddByte(byte));
@@ -25,16 +25,20 @@ fn why_odd(line: &[u8]) -> Option<Reason<'_>> {
 
 fn why_not_plain(line: &[u8]) -> Option<Reason<'_>> {
     if line.len() > MAX_LINE {
-        return Some(Reason::LongLine);
+        return Some(Reason::Limit(b"a line has at most ", MAX_LINE, b" bytes"));
     }
     if line.starts_with(b"\xef\xbb\xbf") {
-        return Some(Reason::ByteOrderMark);
+        return Some(Reason::Plain(
+            b"the line begins with a byte order mark (BOM): save the file as UTF-8 without one, or as ASCII",
+        ));
     }
     if line.starts_with(b"\xff\xfe") || line.starts_with(b"\xfe\xff") {
-        return Some(Reason::Utf16);
+        return Some(Reason::Plain(b"the file is UTF-16: save it as UTF-8 or ASCII"));
     }
     if line.ends_with(b"\r") {
-        return Some(Reason::CarriageReturn);
+        return Some(Reason::Plain(
+            b"the line ends with a carriage return (CRLF): save the file with LF alone",
+        ));
     }
     why_odd(line)
 }
@@ -52,13 +56,13 @@ fn has_double_space(line: &[u8]) -> bool {
 
 fn why_not_spaced(line: &[u8]) -> Option<Reason<'_>> {
     if line.starts_with(b"#") || line.starts_with(b"//") {
-        return Some(Reason::Comment);
+        return Some(Reason::Plain(b"a script has no comments"));
     }
     if line.starts_with(b" ") || line.ends_with(b" ") {
-        return Some(Reason::OuterSpace);
+        return Some(Reason::Plain(b"a space stands at the beginning or the end of the line"));
     }
     if has_double_space(line) {
-        return Some(Reason::DoubleSpace);
+        return Some(Reason::Plain(b"two spaces follow one another: words are separated by one"));
     }
     None
 }
@@ -68,7 +72,10 @@ fn why_unknown(word: &[u8]) -> Reason<'_> {
         return Reason::Capitals(command);
     }
     if is_numeral(word) {
-        return Reason::EntryNumber;
+        return Reason::Plain(
+            b"the line begins with a number, as those of a transcript: \
+            a script has the text between the number and ` = `",
+        );
     }
     Reason::UnknownWord(word, meant_by(word))
 }

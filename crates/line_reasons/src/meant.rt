@@ -2,25 +2,25 @@
 
 ghost use Rattle.std.specs.Prelude.{◌≡◌, ◌+◌, ◌<◌, ◌≤◌, length};
 
-use crate::command_word::{COMMANDS, CommandWord};
+use crate::command_word::COMMANDS;
 
 /// What people write for a command.
-const HABITS: [(&[u8], CommandWord); 15] = [
-    (b"add", CommandWord::Link),
-    (b"connect", CommandWord::Link),
-    (b"edge", CommandWord::Link),
-    (b"remove", CommandWord::Unlink),
-    (b"delete", CommandWord::Unlink),
-    (b"cut", CommandWord::Unlink),
-    (b"move", CommandWord::Step),
-    (b"pairs", CommandWord::Matching),
-    (b"match", CommandWord::Matching),
-    (b"fault", CommandWord::Point),
-    (b"run", CommandWord::Drive),
-    (b"base", CommandWord::Checkpoint),
-    (b"save", CommandWord::Checkpoint),
-    (b"random", CommandWord::Scramble),
-    (b"settle", CommandWord::Drive),
+const HABITS: [(&[u8], &[u8]); 15] = [
+    (b"add", b"link"),
+    (b"connect", b"link"),
+    (b"edge", b"link"),
+    (b"remove", b"unlink"),
+    (b"delete", b"unlink"),
+    (b"cut", b"unlink"),
+    (b"move", b"step"),
+    (b"pairs", b"matching"),
+    (b"match", b"matching"),
+    (b"fault", b"point"),
+    (b"run", b"drive"),
+    (b"base", b"checkpoint"),
+    (b"save", b"checkpoint"),
+    (b"random", b"scramble"),
+    (b"settle", b"drive"),
 ];
 
 // No longer word is as much like a command's as `LIKENESS` says.
@@ -86,7 +86,7 @@ fn longest_common(one: &[u8], other: &[u8]) -> Part
 
 // How many letters two words share: those of the longest common part, and of what stands before and after it.
 fn shared_letters(one: &[u8], other: &[u8]) -> usize
-    ensures { result ≤ length one.now }
+    ensures { result ≤ length other.now }
 {
     let Part { from, at, len } = longest_common(one, other);
     if len == 0 {
@@ -99,30 +99,29 @@ fn shared_letters(one: &[u8], other: &[u8]) -> usize
 
 // The part of the letters of two words that they share, in 1 / 20,000; different parts give different numbers.
 fn likeness(name: &[u8], word: &[u8]) -> usize
-    requires name { length name.now ≤ 10 }
-    requires word { length word.now ≤ 23 }
+    requires { length word.now ≤ 23 }
 {
-    let letters = (name.len() + word.len()).max(1);
+    let letters = name.len().saturating_add(word.len()).max(1);
     shared_letters(name, word) * 10_000 / letters
 }
 
 // The command most like a word, if one is much like it; of several the last in the order of their letters.
-fn nearest(word: &[u8]) -> Option<CommandWord>
+fn nearest(word: &[u8]) -> Option<&'static [u8]>
     requires { length word.now ≤ 23 }
 {
     let mut nearest = None;
     let mut most = LIKENESS;
-    for command in COMMANDS {
-        let alike = likeness(command.name(), word);
+    for (name, _) in COMMANDS {
+        let alike = likeness(name, word);
         if alike >= most {
             most = alike;
-            nearest = Some(command);
+            nearest = Some(name);
         }
     }
     nearest
 }
 
-fn habit(word: &[u8]) -> Option<CommandWord> {
+fn habit(word: &[u8]) -> Option<&'static [u8]> {
     for (written, command) in HABITS {
         if written.eq_ignore_ascii_case(word) {
             return Some(command);
@@ -132,7 +131,7 @@ fn habit(word: &[u8]) -> Option<CommandWord> {
 }
 
 /// The command that may be meant by a word.
-pub(crate) fn meant_by(word: &[u8]) -> Option<CommandWord> {
+pub(crate) fn meant_by(word: &[u8]) -> Option<&'static [u8]> {
     if let Some(command) = habit(word) {
         return Some(command);
     }

@@ -3,11 +3,9 @@
 ghost use Rattle.std.specs.Prelude.{◌<◌};
 
 use crate::argument::Argument;
-use crate::command_word::CommandWord;
+use crate::command_word::Command;
 use crate::reason::Reason;
 use itoa::Buffer;
-use rule_machine::MAX_ITEMS;
-use script_text::MAX_LINE;
 use std::alloc::AllocError;
 
 // A message quotes at most this many bytes of a word.
@@ -46,21 +44,17 @@ fn put_odd_byte(text: &mut Vec<u8>, byte: u8) -> Result<(), AllocError> {
     text.extend_from_slice(b": a script is printable ASCII")
 }
 
-fn put_capitals(text: &mut Vec<u8>, command: CommandWord) -> Result<(), AllocError> {
+fn put_capitals(text: &mut Vec<u8>, command: &[u8]) -> Result<(), AllocError> {
     text.extend_from_slice(b"commands are written in small letters: ")?;
-    put_quoted(text, command.name())
+    put_quoted(text, command)
 }
 
-fn put_unknown(
-    text: &mut Vec<u8>,
-    word: &[u8],
-    meant: Option<CommandWord>,
-) -> Result<(), AllocError> {
+fn put_unknown(text: &mut Vec<u8>, word: &[u8], meant: Option<&[u8]>) -> Result<(), AllocError> {
     put_quoted(text, word)?;
     text.extend_from_slice(b" is no command: ")?;
     match meant {
         Some(command) => {
-            put_quoted(text, command.name())?;
+            put_quoted(text, command)?;
             text.extend_from_slice(b" may be meant")
         }
         None => text.extend_from_slice(
@@ -73,11 +67,11 @@ fn put_unknown(
 fn put_limit(
     text: &mut Vec<u8>,
     before: &[u8],
-    most: u64,
+    most: usize,
     behind: &[u8],
 ) -> Result<(), AllocError> {
     text.extend_from_slice(before)?;
-    put_number(text, most)?;
+    put_number(text, most as u64)?;
     text.extend_from_slice(behind)
 }
 
@@ -96,12 +90,12 @@ fn put_arguments(text: &mut Vec<u8>, arguments: &[Argument]) -> Result<(), Alloc
 
 fn put_word_count(
     text: &mut Vec<u8>,
-    command: CommandWord,
+    (name, arguments): Command,
     count: usize,
 ) -> Result<(), AllocError> {
-    put_quoted(text, command.name())?;
+    put_quoted(text, name)?;
     text.extend_from_slice(b" takes ")?;
-    put_arguments(text, command.arguments())?;
+    put_arguments(text, arguments)?;
     text.extend_from_slice(b", and not ")?;
     put_number(text, count as u64)?;
     text.extend_from_slice(if count == 1 {
@@ -109,11 +103,6 @@ fn put_word_count(
     } else {
         b" words".as_slice()
     })
-}
-
-fn put_no_pair(text: &mut Vec<u8>, word: &[u8]) -> Result<(), AllocError> {
-    put_quoted(text, word)?;
-    text.extend_from_slice(b" is not A>B, a node that moves and its target")
 }
 
 // The number without its leading zeros.
@@ -151,48 +140,23 @@ fn put_far_number(text: &mut Vec<u8>, word: &[u8], argument: Argument) -> Result
     put_range(text, argument, b", which is ")
 }
 
-fn put_no_bit(text: &mut Vec<u8>, word: &[u8]) -> Result<(), AllocError> {
+fn put_of_word(text: &mut Vec<u8>, word: &[u8], what: &[u8]) -> Result<(), AllocError> {
     put_quoted(text, word)?;
-    text.extend_from_slice(b" is not 0 or 1")
-}
-
-// The text of a reason that quotes nothing.
-fn plain_text(reason: Reason<'_>) -> &'static [u8] {
-    match reason {
-        Reason::ByteOrderMark => {
-            b"the line begins with a byte order mark (BOM): save the file as UTF-8 without one, or as ASCII"
-        }
-        Reason::Utf16 => b"the file is UTF-16: save it as UTF-8 or ASCII",
-        Reason::CarriageReturn => {
-            b"the line ends with a carriage return (CRLF): save the file with LF alone"
-        }
-        Reason::Tab => b"there is a tab: words are separated by one space",
-        Reason::Comment => b"a script has no comments",
-        Reason::OuterSpace => b"a space stands at the beginning or the end of the line",
-        Reason::DoubleSpace => b"two spaces follow one another: words are separated by one",
-        Reason::EntryNumber => {
-            b"the line begins with a number, as those of a transcript: \
-            a script has the text between the number and ` = `"
-        }
-        Reason::Comma => b"there is a comma: words are separated by one space",
-        _ => b"",
-    }
+    text.extend_from_slice(what)
 }
 
 /// Appends the reason's words.
 pub(crate) fn put_reason(text: &mut Vec<u8>, reason: Reason<'_>) -> Result<(), AllocError> {
     match reason {
-        Reason::LongLine => put_limit(text, b"a line has at most ", MAX_LINE as u64, b" bytes"),
-        Reason::ManyItems => put_limit(text, b"a step has at most ", MAX_ITEMS as u64, b" items"),
+        Reason::Plain(plain) => text.extend_from_slice(plain),
+        Reason::OfWord(word, what) => put_of_word(text, word, what),
+        Reason::Limit(before, most, behind) => put_limit(text, before, most, behind),
         Reason::OddByte(byte) => put_odd_byte(text, byte),
         Reason::Capitals(command) => put_capitals(text, command),
         Reason::UnknownWord(word, meant) => put_unknown(text, word, meant),
         Reason::WordCount(command, count) => put_word_count(text, command, count),
-        Reason::NoPair(word) => put_no_pair(text, word),
         Reason::LeadingZeros(word) => put_leading_zeros(text, word),
-        Reason::NoBit(word) => put_no_bit(text, word),
         Reason::NoNumber(word, argument) => put_no_number(text, word, argument),
         Reason::FarNumber(word, argument) => put_far_number(text, word, argument),
-        plain => text.extend_from_slice(plain_text(plain)),
     }
 }

@@ -1,3 +1,0 @@
-pub mod Prelude
-pub mod Charges
-pub mod EdgeLists

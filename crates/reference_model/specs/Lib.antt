@@ -1,3 +1,0 @@
-pub mod Charges
-pub mod Lists
-pub mod Scans
