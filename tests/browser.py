@@ -1,44 +1,34 @@
-"""A headless browser driven through pipes (the DevTools protocol), with the standard library alone."""
+"""A browser that Selenium drives, with one page. chromium.py, firefox.py and webkit.py begin the three."""
+
 from __future__ import annotations
 
-import json
+import contextlib
+import importlib.util
 import os
-import select
 import shutil
 import subprocess
 import tempfile
 import time
 import weakref
-from typing import Any, Sequence
+from typing import Any, Callable, Iterator, Optional, Sequence, TypeVar
+
+from lib import packages
+
+with contextlib.suppress(ImportError):
+    # `Browser.missing` names it
+    from selenium.common.exceptions import JavascriptException, WebDriverException
+    from selenium.webdriver.common.actions.action_builder import ActionBuilder
+    from selenium.webdriver.common.keys import Keys
+    from selenium.webdriver.remote.remote_connection import RemoteConnection
+    from urllib3.exceptions import HTTPError
 
 PROBES = os.path.join(os.path.dirname(os.path.abspath(__file__)), "page_probes.js")
-NAMES = ["chromium", "chromium-browser", "google-chrome"]
-# code, number and text of keys that are no letters
-KEYS = {
-    "Enter": ("Enter", 13, "\r"),
-    "Escape": ("Escape", 27, ""),
-    "ArrowLeft": ("ArrowLeft", 37, ""),
-    "ArrowUp": ("ArrowUp", 38, ""),
-    "ArrowRight": ("ArrowRight", 39, ""),
-    "ArrowDown": ("ArrowDown", 40, ""),
-    " ": ("Space", 32, " "),
-}
-WORDS = [
-    "--headless=new",
-    "--no-sandbox",
-    "--disable-gpu",
-    "--disable-dev-shm-usage",
-    "--disable-extensions",
-    "--no-first-run",
-    "--disable-background-networking",
-    "--disable-component-update",
-    "--disable-sync",
-    "--disable-default-apps",
-    "--force-device-scale-factor=1",
-    "--hide-scrollbars",
-    "--mute-audio",
-    "--remote-debugging-pipe",
-]
+LIBRARY = "selenium"
+Kind = TypeVar("Kind", bound="Browser")
+# how many seconds a browser may take, beyond those for a page, to say that the page takes too long
+MARGIN = 30
+# drivers listen there, and no proxy knows them
+os.environ["no_proxy"] = "localhost"
 
 
 class BrowserFault(Exception):
@@ -46,182 +36,165 @@ class BrowserFault(Exception):
 
 
 class PageFault(Exception):
-    """An expression failed in the page."""
+    """A script failed in the page."""
 
 
-def browser_path() -> str | None:
-    found = (shutil.which(name) for name in NAMES)
-    return next((path for path in found if path), None)
+@contextlib.contextmanager
+def faults() -> Iterator[None]:
+    """What Selenium raises, as `PageFault` or `BrowserFault`."""
+    try:
+        yield
+    except JavascriptException as wrong:
+        raise PageFault(wrong.msg) from None
+    except (WebDriverException, HTTPError, OSError, subprocess.TimeoutExpired) as wrong:
+        raise BrowserFault(f"{type(wrong).__name__}: {wrong}") from None
+
+
+def attempt(act: Callable[..., object], *words: object) -> None:
+    with contextlib.suppress(BrowserFault), faults():
+        act(*words)
+
+
+def end(run: subprocess.Popen[bytes]) -> None:
+    """Has a process end; kills a stubborn one."""
+    run.terminate()
+    attempt(run.wait, 20)
+    run.kill()
+    run.wait()
+
+
+def path_of(names: Sequence[str]) -> Optional[str]:
+    return next((path for name in names if (path := shutil.which(name))), None)
 
 
 class Browser:
-    """A browser with a page, whose errors and fetches are kept in `complaints` and `fetched`."""
+    """Raises `BrowserFault` if the browser ends, stays silent or refuses a call."""
 
-    def __init__(self, path: str, wait: float = 60, width: int = 1280, height: int = 900) -> None:
-        self.wait, self.left, self.number = wait, b"", 0
-        self.complaints: list[str] = []
-        self.fetched: list[str] = []
-        self.seen: list[str] = []
+    # the names of each program that it needs, and its other packages
+    programs: tuple[tuple[str, ...], ...] = ()
+    files: tuple[str, ...] = ()
+
+    def __init__(self, wait: float = 60, width: int = 1280, height: int = 900) -> None:
+        if lacks := self.missing():
+            raise BrowserFault(lacks)
+        self.wait, self.width, self.height = wait, width, height
+        self.paths = [path_of(names) or "" for names in self.programs]
+        with open(PROBES, encoding="utf-8") as file:
+            self.probes = file.read()
+        RemoteConnection.set_timeout(wait + MARGIN)
         self.home = tempfile.mkdtemp(prefix="rudekpi-browser-")
         # at the latest when this process ends
         self.remove_home = weakref.finalize(self, shutil.rmtree, self.home, ignore_errors=True)
-        commands_out, self.commands = os.pipe()
-        self.replies, replies_in = os.pipe()
+        self.ends = contextlib.ExitStack()
+        try:
+            try:
+                self.begin()
+            except BrowserFault:
+                # another process may have taken the driver's port
+                self.ends.close()
+                self.begin()
+        except BaseException:
+            self.__exit__()
+            raise
 
-        def wire() -> None:
-            # first out of the way, since one may be 3 or 4
-            ends = [os.dup(commands_out), os.dup(replies_in)]
-            os.dup2(ends[0], 3)
-            os.dup2(ends[1], 4)
+    @classmethod
+    def missing(cls) -> str:
+        """What is missing here, or nothing."""
+        absent = [names[0] for names in cls.programs if path_of(names) is None]
+        absent += packages.missing_files(cls.files)
+        absent += [] if importlib.util.find_spec(LIBRARY) else [f"python3-{LIBRARY}"]
+        return ", ".join(f"no {name}" for name in absent)
 
-        words = [path, *WORDS, f"--user-data-dir={self.home}", f"--window-size={width},{height}", "about:blank"]
-        quiet = subprocess.DEVNULL
-        self.run = subprocess.Popen(words, stdin=quiet, stdout=quiet, stderr=quiet, close_fds=False, preexec_fn=wire)
-        os.close(commands_out)
-        os.close(replies_in)
-        self.session: str | None = None
-        targets = self.call("Target.getTargets")["targetInfos"]
-        page = next(target["targetId"] for target in targets if target["type"] == "page")
-        self.session = self.call("Target.attachToTarget", targetId=page, flatten=True)["sessionId"]
-        for domain in ["Page", "Runtime", "Log", "Network"]:
-            self.call(f"{domain}.enable")
-        with open(PROBES, encoding="utf-8") as file:
-            self.before_pages(file.read())
+    def begin(self) -> None:
+        """Sets the driver, and has `ends` end whatever it began."""
+        raise NotImplementedError
 
-    def __enter__(self) -> Browser:
+    @property
+    def complaints(self) -> list[str]:
+        """What pages complained of."""
+        raise NotImplementedError
+
+    def __enter__(self: Kind) -> Kind:
         return self
 
     def __exit__(self, *_: object) -> None:
-        try:
-            self.session = None
-            self.call("Browser.close")
-            self.run.wait(timeout=20)
-        except (BrowserFault, OSError, subprocess.TimeoutExpired):
-            self.run.kill()
-            self.run.wait()
-        os.close(self.commands)
-        os.close(self.replies)
+        self.ends.close()
         self.remove_home()
+        # a browser whose driver was killed writes until it has ended
+        until = time.monotonic() + 10
+        while os.path.exists(self.home) and time.monotonic() < until:
+            shutil.rmtree(self.home, ignore_errors=True)
 
-    def message(self, until: float) -> Any:
-        while b"\0" not in self.left:
-            ready, _, _ = select.select([self.replies], [], [], max(0, until - time.monotonic()))
-            part = os.read(self.replies, 1 << 20) if ready else b""
-            if not part:
-                raise BrowserFault("the browser ended" if ready else "the browser is silent")
-            self.left += part
-        text, self.left = self.left.split(b"\0", 1)
-        return json.loads(text)
+    def limited(self, options: Any) -> Any:
+        """Selenium's options, with the time that a page and a script may take."""
+        most = int(self.wait * 1000)
+        options.timeouts = {"pageLoad": most, "script": most}
+        options.unhandled_prompt_behavior = "accept"
+        return options
 
-    def note(self, event: dict[str, Any]) -> None:
-        method, told = event["method"], event.get("params", {})
-        if method == "Runtime.exceptionThrown":
-            details = told["exceptionDetails"]
-            self.complaints.append(details.get("exception", {}).get("description", details["text"]))
-        elif method == "Runtime.consoleAPICalled":
-            self.complaints.append(" ".join(str(word.get("value")) for word in told["args"]))
-        elif method == "Log.entryAdded":
-            self.complaints.append(told["entry"]["text"])
-        elif method == "Network.requestWillBeSent":
-            self.fetched.append(told["request"]["url"])
-        else:
-            self.seen.append(method)
+    def serve(self, service: Any) -> str:
+        """Begins a driver that ends with the browser. Returns its address."""
+        service.process = None
 
-    def call(self, method: str, **words: Any) -> Any:
-        self.number += 1
-        order = {"id": self.number, "method": method, "params": words}
-        if self.session:
-            order["sessionId"] = self.session
-        os.write(self.commands, json.dumps(order).encode() + b"\0")
-        until = time.monotonic() + self.wait
-        while True:
-            said = self.message(until)
-            if said.get("id") == self.number:
-                if "error" in said:
-                    raise BrowserFault(f"{method}: {said['error']['message']}")
-                return said["result"]
-            if "method" in said:
-                self.note(said)
+        def stop() -> None:
+            if service.process:
+                end(service.process)
+            # otherwise Selenium asks whoever has the port to end
+            service.process = None
 
+        self.ends.callback(stop)
+        service.start()
+        return str(service.service_url)
+
+    def drive(self, driver: Any) -> None:
+        self.driver = driver
+        self.ends.callback(attempt, driver.quit)
+
+    def turn_page(self) -> None:
+        """Comes before a page opens."""
+
+    @faults()
     def open(self, path: str) -> None:
-        self.complaints, self.fetched, self.seen = [], [], []
-        self.call("Page.navigate", url=path if "://" in path else f"file://{path}")
-        until = time.monotonic() + self.wait
-        while "Page.loadEventFired" not in self.seen:
-            said = self.message(until)
-            if "method" in said:
-                self.note(said)
+        self.turn_page()
+        self.driver.get(path if "://" in path else f"file://{path}")
 
-    def before_pages(self, source: str) -> str:
-        """Runs a script first in each later page. Returns the argument for `forget`."""
-        made = self.call("Page.addScriptToEvaluateOnNewDocument", source=source)
-        return str(made["identifier"])
-
-    def forget(self, script: str) -> None:
-        self.call("Page.removeScriptToEvaluateOnNewDocument", identifier=script)
-
-    def ask(self, probe: str, *words: Any) -> Any:
-        return self.value(f"probes.{probe}({', '.join(json.dumps(word) for word in words)})")
-
+    @faults()
     def reload(self) -> None:
-        self.seen = []
-        self.call("Page.reload")
-        until = time.monotonic() + self.wait
-        while "Page.loadEventFired" not in self.seen:
-            said = self.message(until)
-            if "method" in said:
-                self.note(said)
+        self.driver.refresh()
 
-    def value(self, expression: str) -> Any:
-        made = self.call("Runtime.evaluate", expression=expression, returnByValue=True, awaitPromise=True)
-        if "exceptionDetails" in made:
-            details = made["exceptionDetails"]
-            raise PageFault(details.get("exception", {}).get("description", details["text"]))
-        return made["result"].get("value")
+    @faults()
+    def ask(self, probe: str, *words: Any) -> Any:
+        return self.driver.execute_script(f"{self.probes}\nreturn probes.{probe}(...arguments);", *words)
 
-    def key(self, key: str, code: str, number: int, text: str = "") -> None:
-        words = {"key": key, "code": code, "windowsVirtualKeyCode": number}
-        self.call("Input.dispatchKeyEvent", type="keyDown" if text else "rawKeyDown", text=text, **words)
-        self.call("Input.dispatchKeyEvent", type="keyUp", **words)
-
-    def click(self, x: float, y: float) -> None:
-        words = {"x": x, "y": y, "button": "left", "clickCount": 1}
-        self.call("Input.dispatchMouseEvent", type="mousePressed", buttons=1, **words)
-        self.call("Input.dispatchMouseEvent", type="mouseReleased", **words)
-
-    def press(self, name: str) -> None:
-        """By its name in `browser.KEYS`, or a character."""
-        code, number, text = KEYS.get(name, ("", ord(name[0].upper()), name))
-        self.key(name, code or f"Key{name.upper()}", number, text)
-
-    def drag(self, start: tuple[float, float], end: tuple[float, float]) -> None:
-        (x1, y1), (x2, y2) = start, end
-        held = {"button": "left", "buttons": 1}
-        self.move(x1, y1)
-        self.call("Input.dispatchMouseEvent", type="mousePressed", x=x1, y=y1, clickCount=1, **held)
-        for x, y in [((x1 + x2) / 2, (y1 + y2) / 2), (x2, y2)]:
-            self.call("Input.dispatchMouseEvent", type="mouseMoved", x=x, y=y, **held)
-        self.call("Input.dispatchMouseEvent", type="mouseReleased", x=x2, y=y2, button="left", clickCount=1)
+    @contextlib.contextmanager
+    def hand(self) -> Iterator[Any]:
+        """What it is to do is done, without a pause, at the end of the block."""
+        with faults():
+            acts = ActionBuilder(self.driver, duration=0)
+            yield acts
+            acts.perform()
 
     def move(self, x: float, y: float) -> None:
-        self.call("Input.dispatchMouseEvent", type="mouseMoved", x=x, y=y)
+        with self.hand() as hand:
+            hand.pointer_action.move_to_location(round(x), round(y))
 
-    def touch(self, kind: str, *places: Sequence[float]) -> None:
-        """`Start`, `Move` or `End`, with the places of all fingers."""
-        points = [{"x": x, "y": y, "id": number} for number, (x, y) in enumerate(places)]
-        self.call("Input.dispatchTouchEvent", type=f"touch{kind}", touchPoints=points)
+    def click(self, x: float, y: float) -> None:
+        with self.hand() as hand:
+            hand.pointer_action.move_to_location(round(x), round(y)).click()
 
-    def fingers(self, wanted: bool) -> None:
-        self.call("Emulation.setTouchEmulationEnabled", enabled=wanted, maxTouchPoints=2)
+    def drag(self, start: Sequence[float], end: Sequence[float], steps: int = 4) -> None:
+        (x1, y1), (x2, y2) = start, end
+        with self.hand() as hand:
+            mouse = hand.pointer_action.move_to_location(round(x1), round(y1)).pointer_down()
+            for at in range(1, steps + 1):
+                mouse.move_to_location(round(x1 + (x2 - x1) * at / steps), round(y1 + (y2 - y1) * at / steps))
+            mouse.pointer_up()
 
-    def save_into(self, folder: str) -> None:
-        self.call("Browser.setDownloadBehavior", behavior="allow", downloadPath=folder)
-
-    def window(self, width: int, height: int, dark: bool = False) -> None:
-        self.call("Emulation.setDeviceMetricsOverride", width=width, height=height, deviceScaleFactor=1, mobile=False)
-        scheme = {"name": "prefers-color-scheme", "value": "dark" if dark else "light"}
-        self.call("Emulation.setEmulatedMedia", features=[scheme])
-
-    def screenshot(self, whole: bool = False) -> str:
-        """A PNG, in base64."""
-        return str(self.call("Page.captureScreenshot", format="png", captureBeyondViewport=whole)["data"])
+    def press(self, *names: str) -> None:
+        """Keys, held together: characters, or names of pages' events, such as `ArrowUp`."""
+        keys = [getattr(Keys, name.replace("Arrow", "Arrow_").upper(), name) for name in names]
+        with self.hand() as hand:
+            for key in keys:
+                hand.key_action.key_down(key)
+            for key in reversed(keys):
+                hand.key_action.key_up(key)

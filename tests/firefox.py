@@ -1,20 +1,21 @@
-"""A headless Firefox, driven through its Marionette port with the standard library alone."""
+"""A headless Firefox. Debian has no geckodriver, so Selenium's commands go to Firefox's own Marionette."""
 
 from __future__ import annotations
 
+import contextlib
 import json
 import os
-import shutil
 import socket
 import subprocess
-import tempfile
 import time
-import weakref
 from typing import Any
 
-from browser import PROBES, BrowserFault, PageFault
+from browser import MARGIN, Browser, BrowserFault, end, faults
 
-NAMES = ["firefox-esr", "firefox"]
+with contextlib.suppress(ImportError):
+    from selenium.webdriver import Remote
+    from selenium.webdriver.common.options import ArgOptions
+
 # no first pages, no updates, no questions
 PREFERENCES = {
     "marionette.port": 0,
@@ -28,51 +29,70 @@ PREFERENCES = {
     "browser.dom.window.dump.enabled": True,
     "dom.disable_beforeunload": True,
 }
-KEYS = {
-    "Enter": "\ue007",
-    "Escape": "\ue00c",
-    "ArrowLeft": "\ue012",
-    "ArrowUp": "\ue013",
-    "ArrowRight": "\ue014",
-    "ArrowDown": "\ue015",
-}
 # how a page's error begins in Firefox's output
 SIGNS = ("JavaScript error: file:", "JavaScript error: http:")
+# by Selenium's names
+COMMANDS = {
+    "newSession": "WebDriver:NewSession",
+    "get": "WebDriver:Navigate",
+    "refresh": "WebDriver:Refresh",
+    "w3cExecuteScript": "WebDriver:ExecuteScript",
+    "actions": "WebDriver:PerformActions",
+    "setWindowRect": "WebDriver:SetWindowRect",
+    "quit": "Marionette:Quit",
+}
 
 
-def firefox_path() -> str | None:
-    found = (shutil.which(name) for name in NAMES)
-    return next((path for path in found if path), None)
+class Marionette:
+    """An executor of Selenium's commands. A message is its length in bytes, a colon, and JSON."""
+
+    def __init__(self, port: int, wait: float) -> None:
+        self.number = 0
+        self.wire = socket.create_connection(("127.0.0.1", port), timeout=wait)
+        self.heard = self.wire.makefile("rb")
+        self.message()
+
+    def message(self) -> Any:
+        size = b""
+        while not size.endswith(b":"):
+            digit = self.heard.read(1)
+            if not digit:
+                raise BrowserFault("Firefox ended")
+            size += digit
+        return json.loads(self.heard.read(int(size[:-1])))
+
+    def execute(self, command: str, words: dict[str, Any]) -> dict[str, Any]:
+        self.number += 1
+        text = json.dumps([0, self.number, COMMANDS[command], words]).encode()
+        self.wire.sendall(b"%d:%s" % (len(text), text))
+        _, _, wrong, result = self.message()
+        return {"status": wrong["error"], "value": wrong} if wrong else {"value": result.get("value", result)}
+
+    def close(self) -> None:
+        self.heard.close()
+        self.wire.close()
 
 
-class Firefox:
-    """Raises `BrowserFault` if Firefox ends, stays silent or refuses a call."""
+class Firefox(Browser):
+    programs = (("firefox-esr", "firefox"),)
 
-    def __init__(self, path: str, wait: float = 60, width: int = 1280, height: int = 900) -> None:
-        self.wait, self.number, self.left = wait, 0, b""
-        self.home = tempfile.mkdtemp(prefix="rudekpi-firefox-")
-        # at the latest when this process ends
-        self.remove_home = weakref.finalize(self, shutil.rmtree, self.home, ignore_errors=True)
+    @faults()
+    def begin(self) -> None:
         preferences: dict[str, object] = {**PREFERENCES, "browser.download.dir": self.home}
         with open(f"{self.home}/user.js", "w", encoding="ascii") as file:
             file.writelines(
                 f"user_pref({json.dumps(key)}, {json.dumps(value)});\n" for key, value in preferences.items()
             )
-        with open(PROBES, encoding="utf-8") as file:
-            self.probes = file.read()
-        self.said = open(f"{self.home}/said", "wb+")
-        words = [path, "--headless", "--marionette", "--no-remote", "--profile", self.home, "about:blank"]
-        places = {
-            **os.environ,
-            "HOME": self.home,
-            "MOZ_HEADLESS_WIDTH": str(width),
-            "MOZ_HEADLESS_HEIGHT": str(height),
-        }
-        self.run = subprocess.Popen(words, stdin=subprocess.DEVNULL, stdout=self.said, stderr=self.said, env=places)
-        self.wire = socket.create_connection(("127.0.0.1", self.port()), timeout=wait)
-        self.message()
-        self.call("WebDriver:NewSession", capabilities={"alwaysMatch": {"unhandledPromptBehavior": "accept"}})
-        self.call("WebDriver:SetWindowRect", width=width, height=height)
+        words = [*self.paths, "--headless", "--marionette", "--no-remote", "--profile", self.home, "about:blank"]
+        size = {"MOZ_HEADLESS_WIDTH": str(self.width), "MOZ_HEADLESS_HEIGHT": str(self.height)}
+        places = {**os.environ, **size, "HOME": self.home}
+        with open(f"{self.home}/said", "wb") as said:
+            self.run = subprocess.Popen(words, stdin=subprocess.DEVNULL, stdout=said, stderr=said, env=places)
+        self.ends.callback(end, self.run)
+        executor = Marionette(self.port(), self.wait + MARGIN)
+        self.ends.callback(executor.close)
+        self.drive(Remote(executor, options=self.limited(ArgOptions())))
+        self.driver.set_window_size(self.width, self.height)
 
     def port(self) -> int:
         until = time.monotonic() + self.wait
@@ -84,73 +104,8 @@ class Firefox:
             time.sleep(0.1)
         raise BrowserFault("Firefox opens no port")
 
-    def __enter__(self) -> Firefox:
-        return self
-
-    def __exit__(self, *_: object) -> None:
-        try:
-            self.call("Marionette:Quit", flags=["eForceQuit"])
-            self.run.wait(timeout=20)
-        except (BrowserFault, OSError, subprocess.TimeoutExpired):
-            self.run.kill()
-            self.run.wait()
-        self.wire.close()
-        self.said.close()
-        self.remove_home()
-
-    def message(self) -> Any:
-        """Its length, a colon, and JSON."""
-        while b":" not in self.left or len(self.left) < int(self.left.split(b":", 1)[0]) + self.left.index(b":") + 1:
-            part = self.wire.recv(1 << 16)
-            if not part:
-                raise BrowserFault("Firefox ended")
-            self.left += part
-        size, rest = self.left.split(b":", 1)
-        text, self.left = rest[: int(size)], rest[int(size) :]
-        return json.loads(text)
-
-    def call(self, name: str, **words: Any) -> Any:
-        self.number += 1
-        text = json.dumps([0, self.number, name, words]).encode()
-        self.wire.sendall(b"%d:%s" % (len(text), text))
-        _, _, wrong, result = self.message()
-        if wrong:
-            fault = PageFault if wrong["error"] == "javascript error" else BrowserFault
-            raise fault(f"{name}: {wrong['error']}: {wrong['message']}")
-        return result
-
     @property
     def complaints(self) -> list[str]:
+        """Those of all pages so far."""
         with open(f"{self.home}/said", encoding="utf-8", errors="replace") as file:
             return [line.rstrip("\n") for line in file if line.startswith(SIGNS)]
-
-    def open(self, path: str) -> None:
-        self.call("WebDriver:Navigate", url=path if "://" in path else f"file://{path}")
-
-    def reload(self) -> None:
-        self.call("WebDriver:Refresh")
-
-    def ask(self, probe: str, *words: Any) -> Any:
-        script = f"{self.probes}\nreturn probes.{probe}(...arguments);"
-        return self.call("WebDriver:ExecuteScript", script=script, args=list(words))["value"]
-
-    def pointer(self, *steps: dict[str, Any]) -> None:
-        mouse = {"type": "pointer", "id": "mouse", "parameters": {"pointerType": "mouse"}, "actions": list(steps)}
-        self.call("WebDriver:PerformActions", actions=[mouse])
-
-    def click(self, x: float, y: float) -> None:
-        to = {"type": "pointerMove", "x": int(x), "y": int(y), "origin": "viewport", "duration": 0}
-        self.pointer(to, {"type": "pointerDown", "button": 0}, {"type": "pointerUp", "button": 0})
-
-    def drag(self, start: tuple[float, float], end: tuple[float, float]) -> None:
-        (x1, y1), (x2, y2) = start, end
-        places = [(x1, y1), ((x1 + x2) / 2, (y1 + y2) / 2), (x2, y2)]
-        first, *others = [
-            {"type": "pointerMove", "x": int(x), "y": int(y), "origin": "viewport", "duration": 0} for x, y in places
-        ]
-        self.pointer(first, {"type": "pointerDown", "button": 0}, *others, {"type": "pointerUp", "button": 0})
-
-    def press(self, name: str) -> None:
-        value = KEYS.get(name, name)
-        actions = [{"type": kind, "value": value} for kind in ("keyDown", "keyUp")]
-        self.call("WebDriver:PerformActions", actions=[{"type": "key", "id": "keys", "actions": actions}])

@@ -4,13 +4,10 @@ from __future__ import annotations
 
 import random
 import subprocess
-from typing import Callable, Protocol, Union
+from typing import Callable, Protocol
 
 from browser import Browser
-from firefox import Firefox
 from page_hands import comes_true
-
-AnyBrowser = Union[Browser, Firefox]
 
 WINDOW = (1280, 900)
 KEYS = [*" .zyxa123456+-0e", "ArrowUp", "ArrowDown", "Enter", "Escape"]
@@ -75,7 +72,7 @@ class Counts(Protocol):
 
 
 class Acts:
-    def __init__(self, browser: AnyBrowser, program: str, page: str, seed: int) -> None:
+    def __init__(self, browser: Browser, program: str, page: str, seed: int) -> None:
         self.browser, self.program, self.page, self.draw = browser, program, page, random.Random(seed)
         self.done: list[str] = []
         ways: list[tuple[int, Callable[[], str]]] = [
@@ -194,7 +191,7 @@ class Acts:
         return str(made.stdout.decode().strip())
 
 
-def use(pages: Counts, browser: AnyBrowser, name: str, page: str, seed: int, count: int) -> None:
+def use(pages: Counts, browser: Browser, name: str, page: str, seed: int, count: int) -> None:
     """Of the hundreds that end badly the first is printed with the acts before it."""
     acts = Acts(browser, pages.program, page, seed)
     acts.begin()

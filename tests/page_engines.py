@@ -9,19 +9,19 @@ import os
 import re
 import shutil
 import threading
-from typing import Callable, Iterator, Optional, Union
+from typing import Iterator, Optional
 
-from browser import Browser, BrowserFault, PageFault, browser_path
-from firefox import Firefox, firefox_path
+from browser import Browser, BrowserFault, PageFault
+from chromium import Chromium
+from firefox import Firefox
 import page_keep
 import page_resume
 from page_hands import waited
 from page_lab import PLAYGROUND
 from page_runs import Pages
-from webkit import WebKit, why_no_webkit
+from webkit import WebKit
 
-AnyBrowser = Union[Browser, Firefox, WebKit]
-
+WIDE = 1280, 900
 MODULE = os.path.join(os.path.dirname(PLAYGROUND), "rudekpi.mjs")
 MENDED = re.compile(r"is cut\. Mended in \d+ moves? and \d+ rounds?; at most \d+ and \d+ could have come\.$")
 # the module's commands, and equivalent lines of a script
@@ -87,7 +87,7 @@ def served(folder: str) -> Iterator[str]:
             thread.join()
 
 
-def plays(pages: Pages, browser: AnyBrowser, name: str, width: Optional[int]) -> None:
+def plays(pages: Pages, browser: Browser, name: str, width: Optional[int]) -> None:
     """The page settles, a link is cut and the network recovers: no error, no request, nothing too wide."""
     browser.open(PLAYGROUND)
     pages.expect(f"{name}: it opens", waited(browser, 1, "count", ".graph"), 1)
@@ -104,7 +104,7 @@ def plays(pages: Pages, browser: AnyBrowser, name: str, width: Optional[int]) ->
         pages.expect(f"{name}: what is wider than {width}", browser.ask("widest"), width)
     pages.expect(f"{name}: what the page complains of", browser.complaints, [])
     pages.expect(f"{name}: what the page fetches", browser.ask("fetched"), [])
-    if not isinstance(browser, Firefox):
+    if isinstance(browser, (Chromium, WebKit)):
         pages.expect(f"{name}: all requests", browser.fetched, [f"file://{PLAYGROUND}"])
     page_resume.in_engine(pages, browser, name, width)
     pages.expect(f"{name}: what going on complains of", browser.complaints, [])
@@ -112,7 +112,7 @@ def plays(pages: Pages, browser: AnyBrowser, name: str, width: Optional[int]) ->
     page_keep.in_engine(pages, browser, name)
 
 
-def imports(pages: Pages, browser: AnyBrowser, name: str, address: str) -> None:
+def imports(pages: Pages, browser: Browser, name: str, address: str) -> None:
     before = len(browser.complaints)
     browser.open(f"{address}/index.html")
     pages.expect(f"{name}: the module runs", waited(browser, "yes", "told", "done"), "yes")
@@ -122,15 +122,18 @@ def imports(pages: Pages, browser: AnyBrowser, name: str, address: str) -> None:
     told = [browser.ask("told", key) for key in ("entries", "damage", "partner")]
     pages.expect(f"{name}: its audit", told, [entries, "line 2: not a transcript line", "bob"])
     # Chromium counts anew with each page
-    complaints = browser.complaints if isinstance(browser, Browser) else browser.complaints[before:]
+    complaints = browser.complaints if isinstance(browser, Chromium) else browser.complaints[before:]
     pages.expect(f"{name}: what it complains of", complaints, [])
 
 
-def visit(pages: Pages, name: str, begin: Callable[[], AnyBrowser], address: str, width: Optional[int]) -> None:
+def visit(pages: Pages, name: str, kind: type[Browser], address: str, size: tuple[int, int]) -> None:
+    if lacks := kind.missing():
+        return pages.skip(f"the playground in {name}", lacks)
+    width = None if kind is Firefox else size[0]
     try:
-        with begin() as browser:
-            if isinstance(browser, Browser):
-                browser.window(1280, 900)
+        with kind(pages.wait, *size) as browser:
+            if isinstance(browser, Chromium):
+                browser.window(*size)
             plays(pages, browser, name, width)
             if os.path.exists(MODULE):
                 imports(pages, browser, name, address)
@@ -148,18 +151,8 @@ def use(pages: Pages) -> None:
             out.write(text)
     if os.path.exists(MODULE):
         shutil.copy(MODULE, folder)
-    chromium, firefox, no_webkit = browser_path(), firefox_path(), why_no_webkit()
     with served(folder) as address:
-        if chromium is None:
-            pages.skip("the playground in Chromium", "no chromium")
-        else:
-            visit(pages, "Chromium", functools.partial(Browser, chromium, pages.wait), address, 1280)
-        if firefox is None:
-            pages.skip("the playground in Firefox", "no firefox-esr")
-        else:
-            visit(pages, "Firefox", functools.partial(Firefox, firefox, pages.wait), address, None)
-        for name, width, height in (("WebKit", 1280, 900), ("WebKit on a phone", 390, 844)):
-            if no_webkit:
-                pages.skip(f"the playground in {name}", no_webkit)
-            else:
-                visit(pages, name, functools.partial(WebKit, pages.wait, width, height), address, width)
+        visit(pages, "Chromium", Chromium, address, WIDE)
+        visit(pages, "Firefox", Firefox, address, WIDE)
+        visit(pages, "WebKit", WebKit, address, WIDE)
+        visit(pages, "WebKit on a phone", WebKit, address, (390, 844))

@@ -3,9 +3,10 @@
 from __future__ import annotations
 
 import re
-from typing import Any, Sequence
+from typing import Any
 
-from browser import Browser, PageFault
+from browser import PageFault
+from chromium import Chromium
 from page_lab import agrees, begin, edge, fresh, node, place, settles, tool, transcript
 from page_hands import waited
 
@@ -39,22 +40,16 @@ class Drawn:
         )
 
 
-def drawn(browser: Browser, which: str = GRAPH) -> Drawn:
+def drawn(browser: Chromium, which: str = GRAPH) -> Drawn:
     return Drawn(browser.ask("lab", which))
 
 
-def haloed(browser: Browser, wanted: list[int], which: str = GRAPH) -> Any:
+def haloed(browser: Chromium, wanted: list[int], which: str = GRAPH) -> Any:
     return waited(browser, wanted, "ringed", "reach", which, seconds=20)
 
 
-def away(browser: Browser) -> None:
+def away(browser: Chromium) -> None:
     browser.move(*place(browser, "#title"))
-
-
-def mouse(browser: Browser, what: str, at: Sequence[float]) -> None:
-    browser.call(
-        "Input.dispatchMouseEvent", type=f"mouse{what}", x=at[0], y=at[1], button="left", buttons=1, clickCount=1
-    )
 
 
 def movers(text: str) -> set[int]:
@@ -63,7 +58,7 @@ def movers(text: str) -> set[int]:
     return {int(name) for reply in replies for name in re.findall(r"(\d+):", reply)}
 
 
-def cuts(pages: Any, browser: Browser) -> None:
+def cuts(pages: Any, browser: Chromium) -> None:
     """Over a pair's link both ends and their unpaired neighbours have a halo. If it is cut, only they may
     still move, whatever the schedule. Over any other link no node has one."""
     fresh(browser, "disk", 15)
@@ -107,7 +102,7 @@ def cuts(pages: Any, browser: Browser) -> None:
     pages.expect("complaints of cuts", browser.complaints, [])
 
 
-def tools(pages: Any, browser: Browser) -> None:
+def tools(pages: Any, browser: Chromium) -> None:
     """Over a node, and over the buttons of its card, the halo is that of the tool's act: the node leaves,
     its pointer is written, its flag flipped. So it is while a line is drawn from it."""
     fresh(browser, "path", 7, "manne")
@@ -141,25 +136,27 @@ def tools(pages: Any, browser: Browser) -> None:
     tool(browser, "point")
     start, end = node(browser, single), node(browser, other)
     browser.move(*start)
-    mouse(browser, "Pressed", start)
+    with browser.hand() as hand:
+        hand.pointer_action.pointer_down()
     on_the_way: list[tuple[float, list[int]]] = [(0.3, []), (0.5, []), (1, [single])]
     for share, wanted in on_the_way:
-        mouse(browser, "Moved", [one + share * (two - one) for one, two in zip(start, end)])
+        browser.move(*(one + share * (two - one) for one, two in zip(start, end)))
         pages.expect(f"the halo of a pointer that is drawn, at {share}", haloed(browser, wanted, which), wanted)
     pages.expect("which is not written yet", browser.ask("lastAct"), None)
-    mouse(browser, "Released", end)
+    with browser.hand() as hand:
+        hand.pointer_action.pointer_up()
     line = f"point {single} {other}"
     pages.expect("and is then", waited(browser, line, "lastAct"), line)
     pages.expect("who may still move then", waited(browser, [single], "ringed", "rest", which, seconds=20), [single])
     pages.expect("complaints of tools", browser.complaints, [])
 
 
-def keys(pages: Any, browser: Browser) -> None:
+def keys(pages: Any, browser: Chromium) -> None:
     """A link chosen by keys has its halo; under two rule sets each picture has its own."""
     fresh(browser, "path", 6, "both")
     browser.ask("focus", ".graph")
     for _ in range(2):
-        browser.key("e", "KeyE", 69, "e")
+        browser.press("e")
     low, high = map(int, re.findall(r"\d+", browser.ask("text", "#chosen-heading")))
     for rules in ("hh", "manne"):
         seen = drawn(browser, f"graph-{rules}")
@@ -168,7 +165,7 @@ def keys(pages: Any, browser: Browser) -> None:
     pages.expect("complaints of halos by keys", browser.complaints, [])
 
 
-def bars(pages: Any, browser: Browser) -> None:
+def bars(pages: Any, browser: Chromium) -> None:
     """The bar's length is the epoch's bound: under hh at most n²/2 + n - 2, the half rounded down. The
     moves spent and those that can come fill it, and never exceed it."""
     links = ";".join(f"link+{v}+{w}" for v in range(1, 7) for w in range(v + 1, 7))
@@ -187,7 +184,7 @@ def bars(pages: Any, browser: Browser) -> None:
     pages.expect("complaints of bars", browser.complaints, [])
 
 
-def use(pages: Any, browser: Browser) -> None:
+def use(pages: Any, browser: Chromium) -> None:
     for part in [cuts, tools, keys, bars]:
         try:
             part(pages, browser)

@@ -12,7 +12,8 @@ import xml.etree.ElementTree as ElementTree
 import zlib
 from typing import Any, Callable, Protocol
 
-from browser import Browser, PageFault
+from browser import PageFault
+from chromium import Chromium
 from page_runs import Pages
 
 RING = b"""matching hh 5
@@ -39,11 +40,11 @@ OWN_SCRIPTS = 6
 SVG = "{http://www.w3.org/2000/svg}"
 
 
-def place(browser: Browser, selector: str) -> Any:
+def place(browser: Chromium, selector: str) -> Any:
     return browser.ask("place", selector)
 
 
-def edge_place(browser: Browser, low: int, high: int) -> Any:
+def edge_place(browser: Chromium, low: int, high: int) -> Any:
     return place(browser, f"[data-ends='{low}-{high}']")
 
 
@@ -73,7 +74,7 @@ def changes(browser: Asks, before: Any, probe: str, *words: Any) -> bool:
     return comes_true(lambda: bool(browser.ask(probe, *words) != before))
 
 
-def fills(pages: Pages, browser: Browser) -> None:
+def fills(pages: Pages, browser: Chromium) -> None:
     """A small network fills the drawing; a too large one leaves no empty box."""
     browser.open(pages.write(RING))
     wide, high = browser.ask("shares")
@@ -88,16 +89,16 @@ def fills(pages: Pages, browser: Browser) -> None:
         said.startswith("2,500 nodes: up to 2,000 are drawn. The plots of the whole transcript"),
         True,
     )
-    browser.key("Home", "Home", 36)
+    browser.press("Home")
     type_number(browser, "3")
     pages.expect("a node that is not drawn", browser.ask("card")[2]["neighbours"], "none")
-    browser.key("End", "End", 35)
+    browser.press("End")
     browser.ask("press", "#last")
     pages.expect("a node that is not drawn, at the end", browser.ask("card")[2]["neighbours"], "2 and 4")
     pages.expect("complaints of a page without a drawing", browser.complaints, [])
 
 
-def titles(pages: Pages, browser: Browser) -> None:
+def titles(pages: Pages, browser: Chromium) -> None:
     """The title names what is played, a base with its number."""
     for text, title, entry in [
         (RING, "hh: 5 nodes, 8 entries", ["step 1>2", "1:seduce>2", "6"]),
@@ -114,7 +115,7 @@ def titles(pages: Pages, browser: Browser) -> None:
         pages.expect(f"where it opens: {title}", shown, entry)
 
 
-def long_one(pages: Pages, browser: Browser) -> None:
+def long_one(pages: Pages, browser: Chromium) -> None:
     """With many entries the plots are mean lines with a band; digits are grouped in one way."""
     script = "".join(f"link {v} {v % 60 + 1}\n" for v in range(1, 61)) + "".join(
         f"scramble {k} 7\ndrive {k} 900\n" for k in range(1, 1500)
@@ -136,7 +137,7 @@ def long_one(pages: Pages, browser: Browser) -> None:
     pages.expect("the number of the last entry", browser.ask("text", "#number"), f"{entries:,}")
 
 
-def phone(pages: Pages, browser: Browser) -> None:
+def phone(pages: Pages, browser: Chromium) -> None:
     """The bar covers nothing of the entry and the figures, and all can be scrolled to."""
     path = pages.write(RING)
     for width, height in [(320, 568), (360, 640), (390, 844), (640, 360)]:
@@ -158,20 +159,20 @@ def phone(pages: Pages, browser: Browser) -> None:
     browser.window(1280, 900)
 
 
-def addresses(pages: Pages, browser: Browser) -> None:
+def addresses(pages: Pages, browser: Chromium) -> None:
     """Each step is soon in the address, and leads back; a hundred at once are one."""
     path = pages.write(RING)
     browser.open(path)
     pages.expect("no number before a step", browser.ask("address"), "")
     length = browser.ask("historyLength")
-    browser.key("ArrowRight", "ArrowRight", 39)
+    browser.press("ArrowRight")
     for _ in range(4):
-        browser.key("ArrowLeft", "ArrowLeft", 37)
+        browser.press("ArrowLeft")
     pages.expect("the third entry's address", waited(browser, "#3", "address"), "#3")
     for _ in range(60):
-        browser.key("ArrowLeft", "ArrowLeft", 37)
-        browser.key("ArrowRight", "ArrowRight", 39)
-    browser.key("End", "End", 35)
+        browser.press("ArrowLeft")
+        browser.press("ArrowRight")
+    browser.press("End")
     pages.expect("the last entry's address", waited(browser, "#8", "address"), "#8")
     pages.expect("steps that are no history", browser.ask("historyLength"), length)
     pages.expect("complaints of stepping", browser.complaints, [])
@@ -183,7 +184,7 @@ def addresses(pages: Pages, browser: Browser) -> None:
     pages.expect("an address that is typed", waited(browser, "2", "entry"), "2")
 
 
-def pinches(pages: Pages, browser: Browser) -> None:
+def pinches(pages: Pages, browser: Chromium) -> None:
     """Two fingers zoom and move the drawing at their place; one finger moves it then."""
     browser.window(390, 844)
     browser.fingers(True)
@@ -227,11 +228,11 @@ def pinches(pages: Pages, browser: Browser) -> None:
     pages.expect("complaints of fingers", browser.complaints, [])
 
 
-def type_number(browser: Browser, digits: str) -> None:
+def type_number(browser: Chromium, digits: str) -> None:
     browser.ask("blur")
-    browser.key("f", "KeyF", 70, "f")
+    browser.press("f")
     for digit in digits:
-        browser.key(digit, f"Digit{digit}", ord(digit), digit)
+        browser.press(digit)
 
 
 WAITING = {
@@ -258,10 +259,10 @@ SUITED = {
 }
 
 
-def tells(pages: Pages, browser: Browser) -> None:
+def tells(pages: Pages, browser: Chromium) -> None:
     """A node or edge under the mouse, clicked, or picked by keys or number, shows its content."""
     browser.open(pages.write(RING))
-    browser.key("End", "End", 35)
+    browser.press("End")
     browser.move(*place(browser, "[data-node='3'] .body"))
     pages.expect("a node under the mouse", browser.ask("card"), ["Node 3", "abandon", WAITING])
     browser.move(*edge_place(browser, 4, 5))
@@ -278,20 +279,15 @@ def tells(pages: Pages, browser: Browser) -> None:
     browser.click(*place(browser, "[data-node='1'] .body"))
     browser.move(*place(browser, "#judged"))
     pages.expect("a node that was clicked", browser.ask("card"), ["Node 1", "", MARRIED])
-    browser.key("Home", "Home", 36)
+    browser.press("Home")
     pages.expect("a picked node at another entry", browser.ask("card")[2]["not enabled"], "since it has no neighbour")
-    browser.key("Escape", "Escape", 27)
+    browser.press("Escape")
     pages.expect("what is let go", browser.ask("card"), None)
-    browser.key("End", "End", 35)
+    browser.press("End")
     browser.ask("focus", "#graph")
     walked = []
-    for key, code, number, text in [
-        ("ArrowDown", "ArrowDown", 40, ""),
-        ("ArrowDown", "ArrowDown", 40, ""),
-        *[("e", "KeyE", 69, "e")] * 3,
-        ("ArrowUp", "ArrowUp", 38, ""),
-    ]:
-        browser.key(key, code, number, text)
+    for key in ["ArrowDown", "ArrowDown", "e", "e", "e", "ArrowUp"]:
+        browser.press(key)
         walked.append(browser.ask("card")[0])
     pages.expect(
         "from node to node and to its edges by keys",
@@ -299,10 +295,10 @@ def tells(pages: Pages, browser: Browser) -> None:
         ["Node 1", "Node 2", "Edge 1 – 2", "Edge 2 – 3", "Edge 1 – 2", "Node 1"],
     )
     browser.click(*edge_place(browser, 4, 5))
-    browser.key("e", "KeyE", 69, "e")
+    browser.press("e")
     pages.expect("the next edge of a clicked edge's lower end", browser.ask("card")[0], "Edge 3 – 4")
     browser.open(pages.write(PAIR))
-    browser.key("End", "End", 35)
+    browser.press("End")
     type_number(browser, "2")
     pages.expect("a node by its number, under manne", browser.ask("card"), ["Node 2", "marry", SUITED])
     type_number(browser, "9")
@@ -331,11 +327,11 @@ def saved(folder: str, name: str, seconds: float = 60) -> bytes:
         return file.read()
 
 
-def saves(pages: Pages, browser: Browser) -> None:
+def saves(pages: Pages, browser: Chromium) -> None:
     """As an SVG file that needs no page, with all names, and as a PNG finer than the page."""
     browser.save_into(pages.folder)
     browser.open(pages.write(RING))
-    browser.key("End", "End", 35)
+    browser.press("End")
     browser.click(*place(browser, "#save-svg"))
     browser.click(*place(browser, "#save-png"))
     picture = ElementTree.fromstring(saved(pages.folder, "matching-hh-5-entry-8.svg"))
@@ -359,7 +355,7 @@ def saves(pages: Pages, browser: Browser) -> None:
     )
     links = "".join(f"{v} link {v} {v + 1} = ok\n" for v in range(1, 900))
     browser.open(pages.write(f"matching hh 900\n{links}".encode()))
-    browser.key("Home", "Home", 36)
+    browser.press("Home")
     pages.expect(
         "names that are too small to be read",
         browser.ask("style", ".name", "display"),
@@ -386,7 +382,7 @@ HOSTILE = [
 ]
 
 
-def judges(pages: Pages, browser: Browser) -> None:
+def judges(pages: Pages, browser: Chromium) -> None:
     """The foot of a page names its judge. What a false judge lets in runs nothing, and is reported as no
     transcript."""
     named = os.path.join(pages.folder, "judge")
@@ -440,7 +436,7 @@ def judges(pages: Pages, browser: Browser) -> None:
         )
 
 
-def use(pages: Pages, browser: Browser) -> None:
+def use(pages: Pages, browser: Chromium) -> None:
     for part in [fills, titles, long_one, phone, addresses, pinches, tells, saves, judges]:
         try:
             part(pages, browser)

@@ -2,16 +2,11 @@
 
 from __future__ import annotations
 
-from typing import Union
-
 from browser import Browser
-from firefox import Firefox
+from chromium import Chromium
 from page_hands import waited
 from page_lab import PLAYGROUND, begin
 from page_runs import Pages
-from webkit import WebKit
-
-AnyBrowser = Union[Browser, Firefox, WebKit]
 
 # entries of a transcript of more than 6 MB
 ENTRIES = 380_000
@@ -22,18 +17,18 @@ NO_DATABASE = "IDBFactory.prototype.open = () => { throw new Error('no database'
 REFUSED = ("text", "#refusal-said")
 
 
-def by_hand(browser: AnyBrowser) -> None:
+def by_hand(browser: Browser) -> None:
     browser.ask("openFile", "matching-hh-3.script", SCRIPT)
     waited(browser, LINES, "script")
 
 
-def opened(browser: AnyBrowser) -> object:
+def opened(browser: Browser) -> object:
     """The number of entries of the transcript that is played."""
     browser.ask("openLong", "long.transcript", ENTRIES)
     return waited(browser, str(ENTRIES), "attribute", "#slider", "max", seconds=SECONDS)
 
 
-def in_engine(pages: Pages, browser: AnyBrowser, name: str) -> None:
+def in_engine(pages: Pages, browser: Browser, name: str) -> None:
     """After a reload a transcript of 6 MB is there, and the network made before it."""
     before = len(browser.complaints)
     browser.open(PLAYGROUND)
@@ -50,11 +45,11 @@ def in_engine(pages: Pages, browser: AnyBrowser, name: str) -> None:
     waited(browser, True, "keeps", "lab")
     browser.reload()
     pages.expect(f"{name}: which another reload keeps", waited(browser, LINES, "script"), LINES)
-    complaints = browser.complaints if isinstance(browser, Browser) else browser.complaints[before:]
+    complaints = browser.complaints if isinstance(browser, Chromium) else browser.complaints[before:]
     pages.expect(f"{name}: what keeping complains of", complaints, [])
 
 
-def without_room(pages: Pages, browser: Browser) -> None:
+def without_room(pages: Pages, browser: Chromium) -> None:
     """What a browser can't keep is said at once, and takes nothing along."""
     script = browser.before_pages(NO_DATABASE)
     begin(browser)
@@ -74,5 +69,5 @@ def without_room(pages: Pages, browser: Browser) -> None:
     pages.expect("complaints of no room", browser.complaints, [])
 
 
-def use(pages: Pages, browser: Browser) -> None:
+def use(pages: Pages, browser: Chromium) -> None:
     without_room(pages, browser)

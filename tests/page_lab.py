@@ -5,9 +5,10 @@ from __future__ import annotations
 import os
 import re
 import time
-from typing import Any, Callable, Iterable, Sequence
+from typing import Any, Callable, Iterable
 
-from browser import Browser, PageFault
+from browser import PageFault
+from chromium import Chromium
 from page_hands import OWN_SCRIPTS, changes, comes_true, saved, waited
 from page_runs import Pages
 
@@ -19,7 +20,7 @@ REFUSED = ("text", "#refusal-said")
 WEIGHTS = {"hh": 1, "manne": 3}
 
 
-def begin(browser: Browser, address: str = "") -> None:
+def begin(browser: Chromium, address: str = "") -> None:
     """As at a first visit."""
     browser.open(f"{TOP}/viewer/page.css")
     browser.ask("forgetAll")
@@ -27,13 +28,13 @@ def begin(browser: Browser, address: str = "") -> None:
     waited(browser, 1, "count", ".graph")
 
 
-def place(browser: Browser, selector: str) -> Any:
+def place(browser: Chromium, selector: str) -> Any:
     """The middle of a selector's element, once in the window."""
     browser.ask("show", selector)
     return browser.ask("place", selector)
 
 
-def fresh(browser: Browser, kind: str = "ring", nodes: int = 6, rules: str = "hh", seed: int = 1) -> None:
+def fresh(browser: Chromium, kind: str = "ring", nodes: int = 6, rules: str = "hh", seed: int = 1) -> None:
     """With a network of a kind that has settled and waits."""
     begin(browser)
     browser.ask("choose", "#pace", "1000")
@@ -45,47 +46,31 @@ def fresh(browser: Browser, kind: str = "ring", nodes: int = 6, rules: str = "hh
     waited(browser, False, "isRunning")
 
 
-def settles(browser: Browser, seconds: float = 30) -> Any:
+def settles(browser: Chromium, seconds: float = 30) -> Any:
     return waited(browser, True, "isStable", seconds=seconds)
 
 
-def edge(browser: Browser, low: int, high: int, which: int = 0) -> Any:
+def edge(browser: Chromium, low: int, high: int, which: int = 0) -> Any:
     return browser.ask("place", f"[data-ends='{low}-{high}']", which)
 
 
-def node(browser: Browser, name: int) -> Any:
+def node(browser: Chromium, name: int) -> Any:
     return place(browser, f".graph [data-node='{name}'] .body")
 
 
-def drag(browser: Browser, start: Sequence[float], end: Sequence[float], steps: int = 4) -> None:
-    (x1, y1), (x2, y2) = start, end
-    browser.move(x1, y1)
-    browser.call("Input.dispatchMouseEvent", type="mousePressed", x=x1, y=y1, button="left", buttons=1, clickCount=1)
-    for at in range(1, steps + 1):
-        browser.call(
-            "Input.dispatchMouseEvent",
-            type="mouseMoved",
-            x=x1 + (x2 - x1) * at / steps,
-            y=y1 + (y2 - y1) * at / steps,
-            button="left",
-            buttons=1,
-        )
-    browser.call("Input.dispatchMouseEvent", type="mouseReleased", x=x2, y=y2, button="left", clickCount=1)
-
-
-def tool(browser: Browser, name: str) -> None:
+def tool(browser: Chromium, name: str) -> None:
     browser.click(*place(browser, f"[data-tool='{name}']"))
 
 
-def last_act(browser: Browser, wanted: str) -> Any:
+def last_act(browser: Chromium, wanted: str) -> Any:
     return waited(browser, wanted, "lastAct", seconds=20)
 
 
-def daemon_moved(browser: Browser) -> bool:
+def daemon_moved(browser: Chromium) -> bool:
     return comes_true(lambda: bool(re.fullmatch(r"drive \d+ 1", browser.ask("lastLine"))))
 
 
-def transcript(browser: Browser) -> bytes:
+def transcript(browser: Chromium) -> bytes:
     text: str = browser.ask("transcript")
     return text.encode()
 
@@ -98,7 +83,7 @@ def budget_of(told: dict[str, str], rules: str) -> tuple[int, int]:
     return 0 if told["enabled"] == "0" else min(charge, by_nodes), min(by_edges, by_nodes)
 
 
-def agrees(pages: Pages, browser: Browser, name: str, rules: str = "hh") -> None:
+def agrees(pages: Pages, browser: Chromium, name: str, rules: str = "hh") -> None:
     """The transcript is accepted, the script makes it, and the drawing agrees."""
     written = transcript(browser)
     verdict = pages.run([pages.program, "audit"], written)
@@ -115,7 +100,7 @@ def agrees(pages: Pages, browser: Browser, name: str, rules: str = "hh") -> None
     )
 
 
-def opens(pages: Pages, browser: Browser) -> None:
+def opens(pages: Pages, browser: Chromium) -> None:
     """By itself the network runs or has settled; a first visitor is told what to do, and sees it recover."""
     begin(browser)
     runs = comes_true(lambda: bool(browser.ask("count", ".graph .pointer, .graph .edge.mutual")))
@@ -136,22 +121,22 @@ def opens(pages: Pages, browser: Browser) -> None:
     pages.expect("what the page complains of", browser.complaints, [])
 
 
-def acts(pages: Pages, browser: Browser) -> None:
+def acts(pages: Pages, browser: Chromium) -> None:
     """Each act by the mouse is a line of the script, and agrees with the program."""
     fresh(browser)
     before = browser.ask("attribute", "[data-node='2']", "transform")
     x, y = node(browser, 2)
-    drag(browser, (x, y), (x - 60, y + 40))
+    browser.drag((x, y), (x - 60, y + 40))
     moved = browser.ask("attribute", "[data-node='2']", "transform") != before
     pages.expect("a node is dragged, and no line comes of it", (moved, len(browser.ask("acts"))), (True, 0))
     tool(browser, "link")
-    drag(browser, node(browser, 2), node(browser, 5))
+    browser.drag(node(browser, 2), node(browser, 5))
     pages.expect("an edge is drawn from node to node", waited(browser, "link 2 5", "lastLine", seconds=20), "link 2 5")
     browser.click(*node(browser, 1))
     browser.click(*node(browser, 3))
     pages.expect("an edge by two clicks", waited(browser, "link 1 3", "lastLine", seconds=20), "link 1 3")
     tool(browser, "point")
-    drag(browser, node(browser, 5), node(browser, 2))
+    browser.drag(node(browser, 5), node(browser, 2))
     pages.expect("a pointer is written", last_act(browser, "point 5 2"), "point 5 2")
     browser.click(*node(browser, 5))
     browser.click(*node(browser, 5))
@@ -176,7 +161,7 @@ def acts(pages: Pages, browser: Browser) -> None:
     pages.expect("complaints of acts", browser.complaints, [])
 
 
-def moves(pages: Pages, browser: Browser) -> None:
+def moves(pages: Pages, browser: Chromium) -> None:
     """By hand, by a seeded daemon, or all enabled nodes."""
     fresh(browser, rules="manne", nodes=8)
     tool(browser, "flag")
@@ -221,7 +206,7 @@ def moves(pages: Pages, browser: Browser) -> None:
     pages.expect("complaints of moves", browser.complaints, [])
 
 
-def networks(pages: Pages, browser: Browser) -> None:
+def networks(pages: Pages, browser: Chromium) -> None:
     """Each begins, settles and agrees with the program; two rule sets run side by side, disturbed alike."""
     for kind in ["ring", "path", "grid", "star", "disk", "random", "racks", "mesh"]:
         for nodes in (2, 23):
@@ -249,22 +234,13 @@ def networks(pages: Pages, browser: Browser) -> None:
     pages.expect("complaints of networks", browser.complaints, [])
 
 
-def typed(browser: Browser, text: str) -> None:
+def typed(browser: Chromium, text: str) -> None:
     browser.click(*place(browser, "#text"))
-    browser.call(
-        "Input.dispatchKeyEvent",
-        type="keyDown",
-        key="a",
-        code="KeyA",
-        windowsVirtualKeyCode=65,
-        modifiers=2,
-        commands=["selectAll"],
-    )
-    browser.call("Input.dispatchKeyEvent", type="keyUp", key="a", code="KeyA", windowsVirtualKeyCode=65, modifiers=2)
+    browser.press("Control", "a")
     browser.call("Input.insertText", text=text)
 
 
-def texts(pages: Pages, browser: Browser) -> None:
+def texts(pages: Pages, browser: Chromium) -> None:
     """The script is edited and played, the transcript edited and judged; saved files are accepted."""
     browser.save_into(pages.folder)
     fresh(browser, "path", 4)
@@ -308,7 +284,7 @@ def texts(pages: Pages, browser: Browser) -> None:
         waited(browser, "hh: 2 nodes, 2 entries – Rudekpi", "title"),
         "hh: 2 nodes, 2 entries – Rudekpi",
     )
-    browser.key("End", "End", 35)
+    browser.press("End")
     foot = [browser.ask("entry"), browser.ask("text", "#judged"), *browser.ask("classes", "#judged")]
     pages.expect(
         "and its judge is named",
@@ -320,7 +296,7 @@ def texts(pages: Pages, browser: Browser) -> None:
     pages.expect("complaints of texts", browser.complaints, [])
 
 
-def dropped(browser: Browser, path: str) -> None:
+def dropped(browser: Chromium, path: str) -> None:
     data = {"items": [], "files": [path], "dragOperationsMask": 1}
     for kind in ["dragEnter", "dragOver", "drop"]:
         browser.call("Input.dispatchDragEvent", type=kind, x=400, y=300, data=data)
@@ -334,7 +310,7 @@ HOSTILE = [
 ]
 
 
-def drops(pages: Pages, browser: Browser) -> None:
+def drops(pages: Pages, browser: Chromium) -> None:
     """A dropped transcript is judged and played; a refused one shows its first wrong line, and runs
     nothing."""
     fresh(browser)
@@ -366,7 +342,7 @@ def drops(pages: Pages, browser: Browser) -> None:
         True,
     )
     pages.expect("the refusal is gone", browser.ask("isHidden", "#refusal"), True)
-    browser.key("End", "End", 35)
+    browser.press("End")
     entries = verdict.split(" ")[1]
     pages.expect("to its end", browser.ask("entry"), entries)
     with open(path, "wb") as file:
@@ -377,7 +353,7 @@ def drops(pages: Pages, browser: Browser) -> None:
         waited(browser, "hh: 2 nodes, 1 entry – Rudekpi", "title"),
         "hh: 2 nodes, 1 entry – Rudekpi",
     )
-    browser.key("ArrowRight", "ArrowRight", 39)
+    browser.press("ArrowRight")
     pages.expect("is alone played by keys", browser.ask("entry"), "1")
     pages.expect(
         "what dropping fetches", [url for url in browser.fetched if not url.startswith(("file:", "blob:"))], []
@@ -385,7 +361,7 @@ def drops(pages: Pages, browser: Browser) -> None:
     pages.expect("complaints of dropping", browser.complaints, [])
 
 
-def addresses(pages: Pages, browser: Browser) -> None:
+def addresses(pages: Pages, browser: Chromium) -> None:
     """A script in the address is played; a hostile one is reported, and runs nothing."""
     begin(browser, "#script=link+1+2;link+2+3;drive+7+100&rules=manne&nodes=4&present=3")
     waited(browser, "✓ stable, 1 married pair", "text", ".state")
@@ -422,7 +398,7 @@ def addresses(pages: Pages, browser: Browser) -> None:
     pages.expect("complaints of addresses", browser.complaints, [])
 
 
-def fingers(pages: Pages, browser: Browser) -> None:
+def fingers(pages: Pages, browser: Chromium) -> None:
     """On a phone, in dark mode, a finger cuts, drags and draws; nothing is too wide."""
     browser.window(390, 844, True)
     browser.fingers(True)
@@ -459,24 +435,14 @@ def fingers(pages: Pages, browser: Browser) -> None:
     pages.expect("complaints of fingers", browser.complaints, [])
 
 
-def keys(pages: Pages, browser: Browser) -> None:
+def keys(pages: Pages, browser: Chromium) -> None:
     fresh(browser, "ring", 6)
     browser.ask("focus", ".graph")
-    press: dict[str, tuple[Any, ...]] = {
-        "down": ("ArrowDown", "ArrowDown", 40),
-        "enter": ("Enter", "Enter", 13),
-        "e": ("e", "KeyE", 69, "e"),
-        "z": ("z", "KeyZ", 90, "z"),
-        "a": ("a", "KeyA", 65, "a"),
-        "x": ("x", "KeyX", 88, "x"),
-        ".": (".", "Period", 190, "."),
-        " ": (" ", "Space", 32, " "),
-        **{str(n): (str(n), f"Digit{n}", 48 + n, str(n)) for n in range(1, 7)},
-    }
+    names = {"down": "ArrowDown", "enter": "Enter"}
 
-    def strike(*names: str) -> None:
-        for name in names:
-            browser.key(*press[name])
+    def strike(*keys: str) -> None:
+        for key in keys:
+            browser.press(names.get(key, key))
 
     strike("down", "down", "e", "enter")
     pages.expect("a link is cut by keys", last_act(browser, "unlink 1 2"), "unlink 1 2")
@@ -492,14 +458,7 @@ def keys(pages: Pages, browser: Browser) -> None:
     pages.expect("and is back", last_act(browser, "join 7"), "join 7")
     before = node(browser, 2)
     strike("1", "down", "down")
-    browser.call(
-        "Input.dispatchKeyEvent",
-        type="rawKeyDown",
-        key="ArrowRight",
-        code="ArrowRight",
-        windowsVirtualKeyCode=39,
-        modifiers=8,
-    )
+    browser.press("Shift", "ArrowRight")
     pages.expect("a node is moved", node(browser, 2)[0] > before[0] + 5, True)
     strike("x", " ")
     pages.expect("it mends", settles(browser), True)
@@ -508,7 +467,7 @@ def keys(pages: Pages, browser: Browser) -> None:
     pages.expect("complaints of keys", browser.complaints, [])
 
 
-def many(pages: Pages, browser: Browser) -> None:
+def many(pages: Pages, browser: Chromium) -> None:
     """500 running nodes are drawn at least 30 times a second, or half as often as the browser repaints the
     still drawing with a few changes: a slow or busy machine paints less. The best of up to six tries counts."""
     best = (0.0, 0.0, 0.0)
@@ -532,7 +491,7 @@ def many(pages: Pages, browser: Browser) -> None:
     pages.expect("complaints of 500 nodes", browser.complaints, [])
 
 
-def without(pages: Pages, browser: Browser) -> None:
+def without(pages: Pages, browser: Chromium) -> None:
     """Without WebAssembly, or if it refuses the module, a browser plays recorded and opened transcripts;
     it says why there is no network."""
     with open(f"{TOP}/examples/breaks_and_mends.transcript", "rb") as file:
@@ -559,16 +518,16 @@ def without(pages: Pages, browser: Browser) -> None:
         pages.expect(f"{source} complaints", browser.complaints, [])
 
 
-def use(pages: Pages, browser: Browser) -> None:
+def use(pages: Pages, browser: Chromium) -> None:
     try_parts(pages, browser, [opens, acts, moves, networks, texts, drops, addresses, fingers, keys, without])
 
 
-def time_it(pages: Pages, browser: Browser) -> None:
+def time_it(pages: Pages, browser: Chromium) -> None:
     """What other programs disturb if they keep the processors busy."""
     try_parts(pages, browser, [many])
 
 
-def try_parts(pages: Pages, browser: Browser, parts: Iterable[Callable[[Pages, Browser], None]]) -> None:
+def try_parts(pages: Pages, browser: Chromium, parts: Iterable[Callable[[Pages, Chromium], None]]) -> None:
     for part in parts:
         try:
             part(pages, browser)

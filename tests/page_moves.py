@@ -8,7 +8,7 @@ import re
 import subprocess
 import sys
 
-from browser import Browser
+from chromium import Chromium
 from page_hands import waited
 from page_lab import TOP, agrees, begin, fresh, place, settles, transcript
 from page_runs import Pages
@@ -32,7 +32,7 @@ def last_burst(pages: Pages, text: bytes) -> tuple[int, int]:
     return int(row["moves"]), int(row["rounds"])
 
 
-def scrambled(browser: Browser, rules: str, daemon: str) -> None:
+def scrambled(browser: Chromium, rules: str, daemon: str) -> None:
     """A grid that has mended 20 scrambled registers by a daemon."""
     fresh(browser, "grid", 36, rules)
     browser.ask("choose", "#daemon", daemon)
@@ -44,13 +44,13 @@ def scrambled(browser: Browser, rules: str, daemon: str) -> None:
     browser.click(*place(browser, "#run"))
 
 
-def headline(browser: Browser) -> list[tuple[int, int]]:
+def headline(browser: Chromium) -> list[tuple[int, int]]:
     """The moves and rounds of each network."""
     found = MENDED.findall(browser.ask("text", "#story"))
     return [(int(moves.replace(",", "")), int(rounds.replace(",", ""))) for moves, rounds in found]
 
 
-def told_rounds(browser: Browser) -> tuple[int, int, int]:
+def told_rounds(browser: Chromium) -> tuple[int, int, int]:
     """The complete rounds of the shown network, those that can come, and their bound."""
     words = ROUNDS.search(browser.ask("text", ".meter .rounds"))
     assert words is not None, browser.ask("text", ".meter .rounds")
@@ -58,11 +58,11 @@ def told_rounds(browser: Browser) -> tuple[int, int, int]:
     return rounds, left, bound
 
 
-def marks(browser: Browser) -> int:
+def marks(browser: Chromium) -> int:
     return str(browser.ask("attribute", ".trace .round", "d") or "").count("M")
 
 
-def counts(pages: Pages, browser: Browser) -> None:
+def counts(pages: Pages, browser: Chromium) -> None:
     """Headline, bar and `bursts` count the same moves and rounds, of each network."""
     for daemon in ("all", "local", "chance", "seeded"):
         scrambled(browser, "manne", daemon)
@@ -85,7 +85,7 @@ def counts(pages: Pages, browser: Browser) -> None:
     pages.expect("complaints of counting", browser.complaints, [])
 
 
-def rounds(pages: Pages, browser: Browser) -> None:
+def rounds(pages: Pages, browser: Chromium) -> None:
     """If all enabled nodes move at once, each step is a round, with a mark; the longest run reaches the bound."""
     fresh(browser, "grid", 36, "manne")
     browser.ask("choose", "#daemon", "all")
@@ -114,7 +114,7 @@ def steps_of(text: str) -> list[list[int]]:
     return [[int(node) for node in words.split(" ")] for words in STEP.findall(text)]
 
 
-def daemons(pages: Pages, browser: Browser) -> None:
+def daemons(pages: Pages, browser: Chromium) -> None:
     """Of a locally central daemon no two neighbours move at once; one with probability 1 lets all enabled
     nodes move. The program accepts what they choose."""
     scrambled(browser, "manne", "local")
@@ -145,7 +145,7 @@ def daemons(pages: Pages, browser: Browser) -> None:
     pages.expect("complaints of daemons", browser.complaints, [])
 
 
-def use(pages: Pages, browser: Browser) -> None:
+def use(pages: Pages, browser: Chromium) -> None:
     counts(pages, browser)
     rounds(pages, browser)
     daemons(pages, browser)

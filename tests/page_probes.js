@@ -1,5 +1,5 @@
-// Probes that tests ask of a page. They are loaded in each page before its own script, and the page does not
-// know of them. tests/browser.py calls `probes.NAME(words)`; the result is plain data.
+// Probes that tests ask of a page, which does not know of them. Chromium loads them in each page before its own
+// script, the others with each question. tests/browser.py calls `probes.NAME(words)`; the result is plain data.
 "use strict";
 
 const probes = (() => {

@@ -6,16 +6,12 @@ import json
 import os
 import re
 import stat
-from typing import Union
 
 from browser import Browser, PageFault
-from firefox import Firefox
+from chromium import Chromium
 from page_hands import BASE, RING, saved, waited
 from page_lab import PLAYGROUND, TITLE, TOP, begin, budget_of, edge, fresh, last_act, node, place, settles, typed
 from page_runs import Pages
-from webkit import WebKit
-
-AnyBrowser = Union[Browser, Firefox, WebKit]
 
 REFUSED = ("text", "#refusal-said")
 GO_ON = "#go-on"
@@ -73,12 +69,12 @@ def examples(pages: Pages) -> list[tuple[str, str]]:
     ]
 
 
-def opened(browser: AnyBrowser, text: str, name: str = "first.transcript") -> None:
+def opened(browser: Browser, text: str, name: str = "first.transcript") -> None:
     browser.ask("openFile", name, text)
     waited(browser, str(entries_in(text)), "attribute", "#slider", "max")
 
 
-def goes_on(browser: AnyBrowser) -> str:
+def goes_on(browser: Browser) -> str:
     """What the page says after the click."""
     browser.ask("show", GO_ON)
     browser.click(*browser.ask("place", GO_ON))
@@ -87,7 +83,7 @@ def goes_on(browser: AnyBrowser) -> str:
     return told
 
 
-def shape(browser: Browser, graph: str) -> list[tuple[int, int]]:
+def shape(browser: Chromium, graph: str) -> list[tuple[int, int]]:
     """The places of five nodes in a drawing's units, from the first of them."""
     places = []
     for name in range(1, 6):
@@ -96,7 +92,7 @@ def shape(browser: Browser, graph: str) -> list[tuple[int, int]]:
     return [(round(x - places[0][0]), round(y - places[0][1])) for x, y in places]
 
 
-def agrees(pages: Pages, browser: AnyBrowser, name: str, first: str) -> None:
+def agrees(pages: Pages, browser: Browser, name: str, first: str) -> None:
     """The first transcript with the page's behind it is accepted, with these sums; the script makes the
     page's; drawing and numbers agree with it."""
     script = "".join(f"{line}\n" for line in browser.ask("scriptNow") if line)
@@ -119,7 +115,7 @@ def agrees(pages: Pages, browser: AnyBrowser, name: str, first: str) -> None:
     pages.expect(f"{name}: the picture", {key: seen[key] for key in ("nodes", "edges", "arrows")}, picture)
 
 
-def transcripts(pages: Pages, browser: Browser) -> None:
+def transcripts(pages: Pages, browser: Chromium) -> None:
     """From each kind of transcript: the network at its end, and acts with the next numbers."""
     for name, text in examples(pages):
         begin(browser)
@@ -138,7 +134,7 @@ def transcripts(pages: Pages, browser: Browser) -> None:
         pages.expect(f"{name}: complaints", browser.complaints, [])
 
 
-def texts(pages: Pages, browser: Browser) -> None:
+def texts(pages: Pages, browser: Chromium) -> None:
     """Script and transcript are edited, saved and named; undo ends at the base; a reload keeps all."""
     browser.save_into(pages.folder)
     begin(browser)
@@ -204,7 +200,7 @@ def texts(pages: Pages, browser: Browser) -> None:
     pages.expect("complaints of texts", browser.complaints, [])
 
 
-def refusals(pages: Pages, browser: Browser) -> None:
+def refusals(pages: Pages, browser: Chromium) -> None:
     """A damaged, cut or too large transcript is refused, and the network that went on stays."""
     begin(browser)
     text = RING.decode()
@@ -256,14 +252,14 @@ def refusals(pages: Pages, browser: Browser) -> None:
     pages.expect("complaints of refusals", browser.complaints, [])
 
 
-def forgotten(browser: Browser, path: str) -> None:
+def forgotten(browser: Chromium, path: str) -> None:
     """A page as at a first visit."""
     browser.open(f"{TOP}/viewer/page.css")
     browser.ask("forgetAll")
     browser.open(path)
 
 
-def own_pages(pages: Pages, browser: Browser) -> None:
+def own_pages(pages: Pages, browser: Chromium) -> None:
     """From the transcript in a page, with its names; what a false judge let in is refused."""
     text = "matching manne 4 3\n1 link 1 2 = ok\n2 step 1 = 1:seduce>2\n"
     path = pages.write(text.encode())
@@ -311,7 +307,7 @@ def own_pages(pages: Pages, browser: Browser) -> None:
     pages.expect("complaints of own pages", browser.complaints, [])
 
 
-def keys(pages: Pages, browser: Browser) -> None:
+def keys(pages: Pages, browser: Chromium) -> None:
     """By keys alone, on a phone and in the dark: the button is found, and the picture has the keys then."""
     for width, dark in [(1280, False), (390, True), (320, True)]:
         browser.window(width, 844, dark)
@@ -322,10 +318,10 @@ def keys(pages: Pages, browser: Browser) -> None:
         browser.ask("blur")
         pressed = 0
         while browser.ask("active") != "go-on" and pressed < 4:
-            browser.key("Tab", "Tab", 9)
+            browser.press("Tab")
             pressed += 1
         pages.expect(f"the second stop of Tab, {width} wide", pressed, 2)
-        browser.key("Enter", "Enter", 13, "\r")
+        browser.press("Enter")
         pages.expect(f"Enter goes on, {width} wide", waited(browser, "graph-hh", "active"), "graph-hh")
         pages.expect(f"nothing is wider then than {width}", browser.ask("widest"), width)
         for name in ("ArrowDown", "e", "Enter"):
@@ -337,7 +333,7 @@ def keys(pages: Pages, browser: Browser) -> None:
     pages.expect("no such button by the network", browser.ask("isPressable", GO_ON), False)
 
 
-def in_engine(pages: Pages, browser: AnyBrowser, name: str, width: int | None) -> None:
+def in_engine(pages: Pages, browser: Browser, name: str, width: int | None) -> None:
     """Any browser goes on from a transcript, and mends a fault with the next numbers."""
     browser.open(PLAYGROUND)
     waited(browser, 1, "count", ".graph")
@@ -359,7 +355,7 @@ def in_engine(pages: Pages, browser: AnyBrowser, name: str, width: int | None) -
         pages.expect(f"{name}: what is wider than {width}", browser.ask("widest"), width)
 
 
-def use(pages: Pages, browser: Browser) -> None:
+def use(pages: Pages, browser: Chromium) -> None:
     for part in [transcripts, texts, refusals, own_pages, keys]:
         try:
             part(pages, browser)

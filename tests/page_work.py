@@ -6,7 +6,8 @@ import os
 import time
 import xml.etree.ElementTree as ElementTree
 
-from browser import Browser, PageFault
+from browser import PageFault
+from chromium import Chromium
 from page_hands import SVG, colours_of, saved, waited
 from page_runs import Pages
 from page_lab import (
@@ -15,7 +16,6 @@ from page_lab import (
     TOP,
     agrees,
     begin,
-    drag,
     dropped,
     edge,
     fresh,
@@ -27,7 +27,6 @@ from page_lab import (
 )
 
 REFUSED = ("text", "#refusal-said")
-E_KEY = ("e", "KeyE", 69, "e")
 EDGES = "# three racks\na b 2.5\nb c\n\nc d\nlonely\n"
 DIMACS = "c a square\np edge 4 4\ne 1 2\ne 2 3\ne 3 4\ne 4 1\n"
 METIS = "% a path\n3 2\n2\n1 3\n2\n"
@@ -73,7 +72,7 @@ def write(pages: Pages, name: str, text: str) -> str:
     return path
 
 
-def addresses(pages: Pages, browser: Browser) -> None:
+def addresses(pages: Pages, browser: Chromium) -> None:
     """A link that names an absent node opens, and sets the selectors; the page writes such links."""
     begin(browser, "#script=link+1+2;link+2+9;drive+3+9&nodes=4&rules=manne")
     pages.expect(
@@ -103,7 +102,7 @@ def addresses(pages: Pages, browser: Browser) -> None:
     pages.expect("complaints of links", browser.complaints, [])
 
 
-def full(pages: Pages, browser: Browser) -> None:
+def full(pages: Pages, browser: Chromium) -> None:
     """A script that would fill the log is refused at once, at its line; the state before stays."""
     lines = "".join(f"scramble {k} 1000000\n" for k in range(1, 18))
     fresh(browser, "path", 4)
@@ -126,22 +125,22 @@ def full(pages: Pages, browser: Browser) -> None:
     pages.expect("complaints of full logs", browser.complaints, [])
 
 
-def keys(pages: Pages, browser: Browser) -> None:
+def keys(pages: Pages, browser: Chromium) -> None:
     """The key for links causes no error without a chosen node, or after one left."""
     fresh(browser, "ring", 6)
     browser.ask("focus", ".graph")
-    browser.key(*E_KEY)
+    browser.press("e")
     pages.expect("nothing was chosen: a first link", browser.ask("text", "#chosen-heading"), "Edge 1 – 2")
     tool(browser, "node")
     browser.click(*node(browser, 1))
-    browser.key(*E_KEY)
+    browser.press("e")
     pages.expect("after a node left", browser.ask("text", "#chosen-heading"), "Edge 2 – 3")
-    browser.key("z", "KeyZ", 90, "z")
-    browser.key(*E_KEY)
+    browser.press("z")
+    browser.press("e")
     pages.expect("complaints of the key", browser.complaints, [])
 
 
-def looks(pages: Pages, browser: Browser) -> None:
+def looks(pages: Pages, browser: Chromium) -> None:
     """All fits 200 pixels; pictures have names; the page says its name and leads to the project."""
     browser.window(200, 500)
     begin(browser)
@@ -178,7 +177,7 @@ def looks(pages: Pages, browser: Browser) -> None:
     pages.expect("complaints of looks", browser.complaints, [])
 
 
-def room(pages: Pages, browser: Browser) -> None:
+def room(pages: Pages, browser: Chromium) -> None:
     """The command line covers nothing, also below a script's error; nothing has a scroll bar, also at 500
     nodes with one of them chosen."""
     for height in (900, 760, 640):
@@ -203,7 +202,7 @@ def room(pages: Pages, browser: Browser) -> None:
     pages.expect("complaints of room", browser.complaints, [])
 
 
-def sizes(pages: Pages, browser: Browser) -> None:
+def sizes(pages: Pages, browser: Chromium) -> None:
     """Too many nodes to draw are refused, and a star of 500 is visible."""
     begin(browser)
     browser.ask("choose", "#preset", "star")
@@ -218,7 +217,7 @@ def sizes(pages: Pages, browser: Browser) -> None:
     pages.expect("complaints of sizes", browser.complaints, [])
 
 
-def calm(pages: Pages, browser: Browser) -> None:
+def calm(pages: Pages, browser: Chromium) -> None:
     """A reader who prefers little motion sees only what was asked for."""
     reduced = {"name": "prefers-reduced-motion", "value": "reduce"}
     browser.call("Emulation.setEmulatedMedia", features=[reduced])
@@ -233,7 +232,7 @@ def calm(pages: Pages, browser: Browser) -> None:
     pages.expect("complaints of calm", browser.complaints, [])
 
 
-def opens(pages: Pages, browser: Browser) -> None:
+def opens(pages: Pages, browser: Chromium) -> None:
     """A saved script comes back to the same transcript; graph files become networks; others are refused."""
     browser.save_into(pages.folder)
     fresh(browser, "ring", 6, "manne")
@@ -288,14 +287,14 @@ def opens(pages: Pages, browser: Browser) -> None:
     pages.expect("complaints of opening", browser.complaints, [])
 
 
-def reloads(pages: Pages, browser: Browser) -> None:
+def reloads(pages: Pages, browser: Chromium) -> None:
     """A reload restores the state; leaving more than a minute of unsaved work asks."""
     fresh(browser, "ring", 8, "both", 5)
     browser.click(*edge(browser, 2, 3))
     browser.click(*place(browser, "#run"))
     settles(browser)
     drag_to = [at + 30 for at in node(browser, 5)]
-    drag(browser, node(browser, 5), drag_to)
+    browser.drag(node(browser, 5), drag_to)
     pages.expect("unsaved work of less than a minute", browser.ask("asksToLeave", 30_000), False)
     pages.expect("and of more", browser.ask("asksToLeave", 61_000), True)
     before = [
@@ -353,7 +352,7 @@ def reloads(pages: Pages, browser: Browser) -> None:
     pages.expect("complaints of reloads", browser.complaints, [])
 
 
-def redoes(pages: Pages, browser: Browser) -> None:
+def redoes(pages: Pages, browser: Chromium) -> None:
     """Undone acts are redone, until another act comes between."""
     fresh(browser, "grid", 9)
     pages.expect("nothing to do again", browser.ask("isDisabled", "#redo"), True)
@@ -369,12 +368,12 @@ def redoes(pages: Pages, browser: Browser) -> None:
     lengths = [len(script) for script in scripts]
     pages.expect("acts are taken back", sorted(lengths, reverse=True) == lengths and lengths[0] > lengths[-1], True)
     for script in reversed(scripts[:-1]):
-        browser.key("y", "KeyY", 89, "y")
+        browser.press("y")
         pages.expect("done again", browser.ask("scriptNow"), script)
     agrees(pages, browser, "what was done again")
     browser.click(*place(browser, "#undo"))
     pages.expect("and taken back once more", browser.ask("scriptNow"), scripts[1])
-    browser.key("y", "KeyY", 89, "y")
+    browser.press("y")
     browser.click(*place(browser, "#undo"))
     browser.click(*edge(browser, 5, 6))
     pages.expect("another act ends it", waited(browser, True, "isDisabled", "#redo"), True)
@@ -388,7 +387,7 @@ def redoes(pages: Pages, browser: Browser) -> None:
     pages.expect("complaints of redo", browser.complaints, [])
 
 
-def wrongs(pages: Pages, browser: Browser) -> None:
+def wrongs(pages: Pages, browser: Chromium) -> None:
     """A bad script is reported with its line marked; on a phone too."""
     for width, height in [(1280, 900), (360, 740)]:
         browser.window(width, height)
@@ -408,7 +407,7 @@ def wrongs(pages: Pages, browser: Browser) -> None:
     pages.expect("complaints of bad scripts", browser.complaints, [])
 
 
-def pictures(pages: Pages, browser: Browser) -> None:
+def pictures(pages: Pages, browser: Chromium) -> None:
     """Saved as SVG and PNG, with all names and arrowheads."""
     browser.save_into(pages.folder)
     fresh(browser, "path", 5)
@@ -424,7 +423,7 @@ def pictures(pages: Pages, browser: Browser) -> None:
     pages.expect("complaints of pictures", browser.complaints, [])
 
 
-def use(pages: Pages, browser: Browser) -> None:
+def use(pages: Pages, browser: Chromium) -> None:
     for part in [addresses, full, keys, looks, room, sizes, calm, opens, reloads, redoes, wrongs, pictures]:
         try:
             part(pages, browser)

@@ -5,6 +5,7 @@ from __future__ import annotations
 import glob
 import shutil
 import sys
+from typing import Iterable
 
 # By program, or library of Python.
 PACKAGES = {
@@ -12,6 +13,7 @@ PACKAGES = {
     "black": "black",
     "cargo": "cargo",
     "cc": "gcc",
+    "chromedriver": "chromium-driver",
     "chromium": "chromium",
     "clang": "clang",
     "clang++": "clang",
@@ -38,6 +40,7 @@ PACKAGES = {
     "pandas": "python3-pandas",
     "pkg-config": "pkg-config",
     "python3-gi": "python3-gi",
+    "python3-selenium": "python3-selenium",
     "python3-venv": "python3-venv",
     "qemu-aarch64": "qemu-user",
     "qemu-riscv64": "qemu-user",
@@ -52,7 +55,8 @@ PACKAGES = {
 }
 # Installed by `.ci/tools` for the gate; `tests/client --lacks` prints the libraries.
 OF_THE_GATE = (
-    *("chromium", "dot", "firefox-esr", "gcc", "man", "mandoc", "node", "wasm-opt", "WebKitWebDriver", "Xvfb"),
+    *("chromedriver", "chromium", "firefox-esr", "WebKitWebDriver", "Xvfb"),
+    *("dot", "gcc", "man", "mandoc", "node", "wasm-opt"),
     *("black", "clang", "clang-format", "flake8", "mypy", "shellcheck", "tsc"),
     *("aarch64-linux-gnu-gcc", "cmake", "g++", "make", "pkg-config", "qemu-aarch64", "riscv64-linux-gnu-gcc"),
     *("coqc", "ocamlopt"),
@@ -60,12 +64,13 @@ OF_THE_GATE = (
 # The gate's needs that are no programs, by package.
 FILES = {
     "python3-gi": "/usr/lib/python3/dist-packages/gi/__init__.py",
+    "python3-selenium": "/usr/lib/python3/dist-packages/selenium/__init__.py",
     "gir1.2-webkit2-4.1": "/usr/lib/*/girepository-1.0/WebKit2-4.1.typelib",
 }
 
 
-def missing_files() -> list[str]:
-    return [package for package, path in FILES.items() if not glob.glob(path)]
+def missing_files(packages: Iterable[str] = FILES) -> list[str]:
+    return [package for package in packages if not glob.glob(FILES[package])]
 
 
 def missing_packages() -> list[str]:
