@@ -1,5 +1,5 @@
 -- What a joined verdict means.
-use Rattle.std.proofs.Common.{◌≤◌, ◌≡◌, ◌⊎◌, ◌++◌, ◌∙◌, ℕ, List, Ok, Err, inl, inr, refl, sym, ap, subst, arith}
+use Rattle.std.proofs.Common.{◌≤◌, ◌≡◌, ◌⊎◌, ◌++◌, ◌∙◌, ℕ, List, Ok, Err, inl, inr, refl, sym, ap, ap₂, subst, arith}
 use Rattle.auditor.specs.declared.fault.AuditFault.{AuditFault}
 use Rattle.auditor.specs.declared.fault.AuditFault.TheVariants.{Read, Memory}
 use Rattle.auditor.specs.declared.summary.Summary.{Summary}
@@ -8,7 +8,7 @@ use Rattle.auditor.specs.AcceptedRuns.{IsAccepted}
 use Rattle.auditor.specs.Verdict.{IsJudged}
 use Rattle.auditor.proofs.VerdictUniqueness.{judged_accepts, judged_names}
 use Rattle.audit_parts.specs.Continuations.{ContinuesRun}
-use Rattle.audit_parts.specs.FieldRanges.{AreLinesBefore, FitsFields}
+use Rattle.audit_parts.specs.FieldRanges.{AreLinesBefore}
 use Rattle.audit_parts.specs.Seams as seams
 use Rattle.rudekpi_c.specs.declared.verdict.Verdict.{Verdict}
 use Rattle.rudekpi_c.specs.JoinCalls.{CountsLines, IsJoined, said_by}
@@ -40,46 +40,19 @@ lines_before lines own old next (Ok c) (Err Memory) e f before = tt
 lines_before lines own old next (Ok c) (Err d) e f before = before c d e f (λ none. let kinds = ap (λ (v : Verdict). v.kind) (sym f ∙ none) in omega (arith, kinds))
 lines_before lines own old next (Err fault) w e f before = tt
 
--- a failed read, which no verdict of bytes is, leaves them unjudged as want of memory does
-abbrev heard : seams.Verdict → seams.Verdict
-heard (Ok c) = Ok c
-heard (Err Read) = Err Memory
-heard (Err fault) = Err fault
+-- the verdict of a result gives the result back, unless a read failed, which is judged of no bytes
+said_judged : (bytes : List ℕ) (v : seams.Verdict) → IsJudged bytes v → said_by (audit_verdict v) ≡ v
+said_judged bytes (Ok c) judged = refl
+said_judged bytes (Err Read) judged = absurd judged
+said_judged bytes (Err fault) judged = refl
 
-heard_verdict : (v : seams.Verdict) → audit_verdict (heard v) ≡ audit_verdict v
-heard_verdict (Ok c) = refl
-heard_verdict (Err Read) = refl
-heard_verdict (Err fault) = refl
-
-heard_fits : (v : seams.Verdict) → FitsFields v → FitsFields (heard v)
-heard_fits (Ok c) fits = fits
-heard_fits (Err Read) fits = fits
-heard_fits (Err fault) fits = fits
-
-heard_judged : (bytes : List ℕ) (v : seams.Verdict) → IsJudged bytes v → heard v ≡ v
-heard_judged bytes (Ok c) judged = refl
-heard_judged bytes (Err Read) judged = absurd judged
-heard_judged bytes (Err fault) judged = refl
-
-heard_joined : (v w : seams.Verdict) (lines : ℕ) → heard (seams.joined_verdict v lines w) ≡ seams.joined_verdict (heard v) lines (heard w)
-heard_joined (Ok c) (Ok d) lines = refl
-heard_joined (Ok c) (Err Read) lines = refl
-heard_joined (Ok c) (Err fault) lines = refl
-heard_joined (Err Read) w lines = refl
-heard_joined (Err fault) w lines = refl
-
--- the verdict of a result gives the result back
-said_once : (said : seams.Verdict) → said_by (audit_verdict said) ≡ heard said
-said_once (Ok c) = refl
-said_once (Err Read) = refl
-said_once (Err fault) = refl
-
-reads : (v : Verdict) (found said : seams.Verdict) → found ≡ said_by v → v ≡ audit_verdict said → found ≡ heard said
-reads v found said is e = is ∙ ap said_by e ∙ said_once said
-
-joined_reads : (lines : ℕ) (old next : Verdict) (first second v w : seams.Verdict) → first ≡ said_by old → second ≡ said_by next → old ≡ audit_verdict v → next ≡ audit_verdict w → seams.joined_verdict first lines second ≡ heard (seams.joined_verdict v lines w)
-joined_reads lines old next first second v w had also e f =
-    ap (λ (z : seams.Verdict). seams.joined_verdict z lines second) (reads old first v had e) ∙ ap (λ (z : seams.Verdict). seams.joined_verdict (heard v) lines z) (reads next second w also f) ∙ sym (heard_joined v w lines)
+-- a failed read leaves the bytes unjudged as want of memory does
+said_joined : (v w : seams.Verdict) (lines : ℕ) → audit_verdict (seams.joined_verdict (said_by (audit_verdict v)) lines (said_by (audit_verdict w))) ≡ audit_verdict (seams.joined_verdict v lines w)
+said_joined (Ok c) (Ok d) lines = refl
+said_joined (Ok c) (Err Read) lines = refl
+said_joined (Ok c) (Err fault) lines = refl
+said_joined (Err Read) w lines = refl
+said_joined (Err fault) w lines = refl
 
 -- What two verdicts say of their texts, the joined verdict says of the whole: `own` is what the whole has
 -- before the second text.
@@ -89,8 +62,8 @@ whole_judged : (lines : ℕ) (old next new : Verdict) (first second both : seams
 whole_judged lines old next new first second both had also told former own latter judged before x y =
     let v = found_as former old x in
     let w = found_as latter next y in
-    let same = reads old first v.found had v.is ∙ heard_judged former v.found v.judged in
-    let same' = reads next second w.found also w.is ∙ heard_judged latter w.found w.judged in
+    let same = had ∙ ap said_by v.is ∙ said_judged former v.found v.judged in
+    let same' = also ∙ ap said_by w.is ∙ said_judged latter w.found w.judged in
     let lines_are = subst (λ (z : seams.Verdict). AreLinesBefore lines own z second) (sym same) (subst (AreLinesBefore lines own v.found) (sym same') (lines_before lines own old next v.found w.found v.is w.is before)) in
     let whole = judged lines_are (subst (IsJudged former) (sym same) v.judged) (subst (IsJudged latter) (sym same') w.judged) in
     judged_as (own ++ latter) both new told whole (judged_accepts (own ++ latter) both whole) (judged_names (own ++ latter) both whole)
@@ -103,5 +76,5 @@ was_joined lines old next new first second both known had also told is judged co
   known = known;
   judged = λ former latter m. whole_judged lines old next new first second both had also told former m.own latter (judged former latter m);
   continued = λ former latter goes_on. whole_judged lines old next new first second both had also told former former latter (continued former latter goes_on);
-  is = λ v w e f. told ∙ ap audit_verdict (is ∙ joined_reads lines old next first second v w had also e f) ∙ heard_verdict (seams.joined_verdict v lines w);
+  is = λ v w e f. told ∙ ap audit_verdict (is ∙ ap₂ (λ (x y : seams.Verdict). seams.joined_verdict x lines y) (had ∙ ap said_by e) (also ∙ ap said_by f)) ∙ said_joined v w lines;
 }

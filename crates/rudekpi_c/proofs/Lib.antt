@@ -10,7 +10,7 @@ pub mod LocalCalls
 pub mod TextTransfer
 pub mod JoinedVerdicts
 pub mod AuditVerdicts
-pub mod NameOutput
+pub mod Moments
 pub mod NodeLists
 pub mod Partners
 pub mod Renumbering

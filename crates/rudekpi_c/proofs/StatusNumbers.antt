@@ -4,7 +4,7 @@ use Rattle.std.specs.Prelude.{IfSome}
 use Rattle.rule_machine.specs.declared.event.Event.TheVariants.{Status}
 use Rattle.rule_machine.specs.Tables.{table_of}
 use Rattle.script_text.specs.declared.command.Command.TheVariants.{Tell}
-use Rattle.rudekpi_c.specs.declared.status_counts.StatusCounts.{StatusCounts}
+use Rattle.rudekpi_c.specs.declared.calls.StatusCounts.{StatusCounts}
 use Rattle.rudekpi_c.specs.declared.session.Session.{Session}
 use Rattle.rudekpi_c.specs.declared.call_result.CallResult.{CallResult}
 use Rattle.rudekpi_c.specs.Session.{stands, rules_of, limit_of}

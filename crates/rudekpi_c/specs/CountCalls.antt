@@ -6,7 +6,7 @@ use Rattle.rule_machine.specs.declared.reply.Reply.TheVariants as reply_is
 use Rattle.rule_machine.specs.Answer.{counts_of}
 use Rattle.rule_machine.specs.Tables.{table_of}
 use Rattle.rudekpi_c.specs.Session.{stands, rules_of}
-use Rattle.rudekpi_c.specs.declared.status_counts.StatusCounts.{StatusCounts}
+use Rattle.rudekpi_c.specs.declared.calls.StatusCounts.{StatusCounts}
 use Rattle.rudekpi_c.specs.declared.session.Session.{Session}
 
 abbrev pub status_counts : Counts → StatusCounts

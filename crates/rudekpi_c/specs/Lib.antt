@@ -15,8 +15,6 @@ pub mod RoundCalls
 pub mod Session
 pub mod Slot
 pub mod ReplyNumbers
-pub mod MovesLeftCalls
 pub mod SilentDrives
-pub mod SilentCosts
 pub mod StateViews
 pub mod SessionTexts

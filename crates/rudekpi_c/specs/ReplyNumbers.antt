@@ -6,7 +6,7 @@ use Rattle.rule_machine.specs.declared.act.Moved.{Moved}
 use Rattle.rule_machine.specs.declared.reply.Reply.{Reply}
 use Rattle.rule_machine.specs.declared.reply.Reply.TheVariants.{Refused, Moves, Shown, EnabledAre, Pairs}
 use Rattle.rule_machine.specs.Refuse.{refusal_number}
-use Rattle.rudekpi_c.specs.declared.row.Row.{Row}
+use Rattle.rudekpi_c.specs.declared.call_result.Row.{Row}
 use Rattle.rudekpi_c.specs.declared.call_result.CallResult.{CallResult}
 
 -- the name, or 0 if there is none

@@ -1,18 +1,21 @@
-//! The answer to a command, for C.
+//! The answer to a command, for C, and the rows of the last answer.
 
-ghost use Rattle.std.specs.Prelude.{◌≡◌, length};
-ghost use Rattle.rudekpi_c.specs.StateViews.{ArePutRows};
-ghost use Rattle.rudekpi_c.specs.ReplyNumbers.{told_of, untold, number_of, rows_of};
+ghost use Rattle.std.specs.Prelude.{◌≡◌, ◌≤◌, ◌<◌, ◌++◌, length, drop, map};
+ghost use Rattle.rudekpi_c.specs.SessionQuestions.{ArePut, rows_kept};
+ghost use Rattle.rudekpi_c.specs.declared.call_result.Row.{Row};
+ghost use Rattle.rudekpi_c.specs.ReplyNumbers.{move_row, enabled_row, pair_row, rule_number, told_of, untold, number_of, rows_of};
 
-use crate::row::{Row, put_rows};
-use rule_machine::{Node, Reply};
+use crate::slot::{Slot, look};
+use crate::status::some_or;
+use rule_machine::{Act, Edge, Moved, Node, Reply};
+use std::alloc::Global;
 use step_log::Answer;
 
 /// An answer: the entry's number, the refusal, the pointer asked for, and how many rows there are.
 ///
 /// A field is 0 if the answer has nothing for it.
 #[repr(C)]
-#[derive(Clone, Copy)]
+#[derive(Clone, Copy, Default)]
 pub struct CallResult {
     pub entry: u32,
     pub refusal: u32,
@@ -24,12 +27,7 @@ impl CallResult {
     pub(crate) fn nothing() -> CallResult
         ensures { result ≡ untold }
     {
-        CallResult {
-            entry: 0,
-            refusal: 0,
-            target: 0,
-            rows: 0,
-        }
+        CallResult::default()
     }
 
     pub(crate) fn of(answer: &Answer) -> CallResult
@@ -49,7 +47,7 @@ impl CallResult {
                 ..entry
             },
             reply => CallResult {
-                rows: count_rows(reply),
+                rows: write_rows(&mut [], reply),
                 ..entry
             },
         }
@@ -66,21 +64,95 @@ pub(crate) fn number_told(node: Option<Node>) -> u32
     }
 }
 
-fn count_rows(reply: &Reply) -> usize
-    ensures { result ≡ length (rows_of reply.now) }
-{
-    match reply {
-        Reply::Moves(moves) => moves.as_slice().len(),
-        Reply::EnabledAre(nodes) => nodes.as_slice().len(),
-        Reply::Pairs(pairs) => pairs.as_slice().len(),
-        _ => 0,
+/// One row of an answer.
+///
+/// | Row | `node` | `rule` | `other` |
+/// |---|---|---|---|
+/// | a move | the node | its rule | its new target, or 0 |
+/// | an enabled node | the node | its rule | 0 |
+/// | a pair | the lower end | 0 | the higher end |
+#[repr(C)]
+#[derive(Clone, Copy)]
+pub struct Row {
+    pub node: u32,
+    pub rule: u32,
+    pub other: u32,
+}
+
+/// A value that is a row of an answer.
+pub(crate) trait AsRow: Copy {
+    /// The row.
+    ghost shown: { Self → Row };
+
+    fn row(self) -> Row
+        ensures { result ≡ shown self };
+}
+
+impl AsRow for Moved {
+    ghost shown = { move_row };
+
+    fn row(self) -> Row {
+        Row {
+            node: self.node.name(),
+            rule: rule_told(self.act),
+            other: number_told(self.target),
+        }
     }
+}
+
+impl AsRow for (Node, Act) {
+    ghost shown = { enabled_row };
+
+    fn row(self) -> Row {
+        Row {
+            node: self.0.name(),
+            rule: rule_told(self.1),
+            other: 0,
+        }
+    }
+}
+
+impl AsRow for Edge {
+    ghost shown = { pair_row };
+
+    fn row(self) -> Row {
+        Row {
+            node: self.low().name(),
+            rule: 0,
+            other: self.high().name(),
+        }
+    }
+}
+
+pub(crate) fn rule_told(act: Act) -> u32
+    ensures { result ≡ rule_number act }
+{
+    match act {
+        Act::Update => 1,
+        Act::Marry => 2,
+        Act::Seduce => 3,
+        Act::Abandon => 4,
+    }
+}
+
+/// Copies the rows if all fit; returns how many there are.
+pub(crate) fn put_rows<T: AsRow>(out: &mut [Row], items: &[T]) -> usize
+    ensures count { result ≡ length (map T.shown items.now) }
+    ensures put { ArePut (map T.shown items.now) out.old out.new }
+{
+    if items.len() > out.len() {
+        return items.len();
+    }
+    for at in 0..items.len() {
+        out[at] = items[at].row();
+    }
+    items.len()
 }
 
 /// Copies the reply's rows if all fit; returns how many there are.
 pub(crate) fn write_rows(out: &mut [Row], reply: &Reply) -> usize
     ensures count { result ≡ length (rows_of reply.now) }
-    ensures put { ArePutRows (rows_of reply.now) out.old out.new }
+    ensures put { ArePut (rows_of reply.now) out.old out.new }
 {
     match reply {
         Reply::Moves(moves) => put_rows(out, moves.as_slice()),
@@ -88,4 +160,15 @@ pub(crate) fn write_rows(out: &mut [Row], reply: &Reply) -> usize
         Reply::Pairs(pairs) => put_rows(out, pairs.as_slice()),
         _ => 0,
     }
+}
+
+/// Copies the last answer's rows to the start of `out`, if all fit; returns how many rows there are.
+#[unsafe(no_mangle)]
+pub extern "C" fn rudekpi_rows(alloc: Global, slot: &mut Slot, out: &mut [Row]) -> usize
+    ensures count { result ≡ length (rows_kept slot.old.handle.value) }
+    ensures all { result ≤ length out.old → out.new ≡ rows_kept slot.old.handle.value ++ drop result out.old }
+    ensures none { length out.old < result → out.new ≡ out.old }
+    ensures kept { slot.new.handle.value ≡ slot.old.handle.value }
+{
+    look!(alloc, slot, 0, session => write_rows(out, &session.answer.reply))
 }

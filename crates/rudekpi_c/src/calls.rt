@@ -7,18 +7,56 @@ ghost use Rattle.script_text.specs.declared.command.Command.{Command};
 ghost use Rattle.script_text.specs.declared.command.Command.TheVariants.{Tell, Drive, Scramble, Checkpoint};
 ghost use Rattle.script_text.specs.Command.{IsCommand};
 ghost use Rattle.rudekpi_c.specs.CommandCalls.{AnswersCommand, command_status, optional_name, step_named};
-ghost use Rattle.rudekpi_c.specs.CountCalls.{AnswersCounts};
+ghost use Rattle.rudekpi_c.specs.CountCalls.{AnswersCounts, counted_in, counted_kept};
 
 use crate::call_result::CallResult;
-use crate::follow::unanswered;
 use crate::request::{self, StepItem};
-use crate::slot::Slot;
+use crate::session::unanswered;
+use crate::slot::{Slot, look};
 use crate::status::{BAD_ARGUMENT, DONE, LOG_FULL, MEMORY, NO_SESSION, REFUSED, some_or};
-use crate::status_counts::{StatusCounts, counted_of};
 use rule_machine::{Event, Reply};
 use script_text::Command;
 use std::alloc::Global;
 use step_log::RecordFault;
+
+/// How many nodes, edges, pairs and enabled nodes there are, the charge, and the moves spent.
+///
+/// The moves spent are those since the last disturbance.
+#[repr(C)]
+#[derive(Clone, Copy, Default)]
+pub struct StatusCounts {
+    pub nodes: u32,
+    pub edges: u32,
+    pub pairs: u32,
+    pub enabled: u32,
+    pub charge: u32,
+    pub spent: u32,
+}
+
+impl StatusCounts {
+    fn of(reply: &Reply) -> StatusCounts
+        ensures { result ≡ counted_in reply.now }
+    {
+        match reply {
+            Reply::Counts(counts) => StatusCounts {
+                nodes: counts.nodes,
+                edges: counts.edges,
+                pairs: counts.pairs,
+                enabled: counts.enabled,
+                charge: counts.charge,
+                spent: counts.spent,
+            },
+            _ => StatusCounts::default(),
+        }
+    }
+}
+
+fn counted_of(alloc: Global, slot: &mut Slot) -> StatusCounts
+    ensures counted { result ≡ counted_kept slot.old.handle.value }
+    ensures kept { slot.new.handle.value ≡ slot.old.handle.value }
+{
+    look!(alloc, slot, StatusCounts::default(), session => StatusCounts::of(&session.answer.reply))
+}
 
 fn status_of(done: Result<(), RecordFault>, reply: &Reply) -> u32
     ensures { result ≡ command_status reply.now done }

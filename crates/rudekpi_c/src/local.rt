@@ -4,8 +4,7 @@ ghost use Rattle.std.specs.Prelude.{◌≡◌, ◌↔◌, ◌≤◌, IsTrue, Som
 ghost use Rattle.std.specs.List.{AllByRecursion};
 ghost use Rattle.rudekpi_c.specs.LocalCalls.{AreNames, AnswersLocal, AnswersMayMove, nearest_name, nearest_record, pointer_named, rule_named, rules_given, move_told, fault_told, fault_status, faulty};
 
-use crate::call_result::number_told;
-use crate::row::rule_told;
+use crate::call_result::{number_told, rule_told};
 use crate::status::{BAD_ARGUMENT, DONE, NOT_SHOWN, some_or};
 use local_rule::{AsRecord, LocalMove, ViewFault, local_rule_of, may_move_of};
 use rule_machine::{Act, MAX_NAME, Node, NodeRecord, RuleSet};

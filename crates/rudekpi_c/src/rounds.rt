@@ -6,7 +6,6 @@ ghost use Rattle.round_laws.specs.Rounds.{rounds_in};
 ghost use Rattle.rule_machine.specs.Run.{Entry};
 ghost use Rattle.rule_machine.specs.State.{State};
 ghost use Rattle.rule_machine.specs.Tables.{table_of};
-ghost use Rattle.run_session.specs.Line.{recording_moment};
 ghost use Rattle.rule_engine.specs.Rounds.{HasRounds};
 ghost use Rattle.rule_engine.specs.RoundsLeft.{LeavesIfCounted};
 ghost use Rattle.rudekpi_c.specs.RoundCalls.{AnswersCounting, AnswersRounds, AnswersRoundsLeft, CountsLog, counted_from};
@@ -14,18 +13,10 @@ ghost use Rattle.rudekpi_c.specs.Session.{stands, rules_of, stands_at, rules_at,
 ghost use Rattle.rudekpi_c.specs.declared.session.Session.{Session};
 
 use crate::session::{Machine, Session, with_run};
-use crate::slot::Slot;
+use crate::slot::{Slot, look};
 use crate::status::{DONE, MEMORY, NO_SESSION, NOT_COUNTED, ok_or, some_or};
-use rule_machine::{Rules, Want};
-use run_session::Run;
+use rule_machine::Want;
 use std::alloc::Global;
-
-fn rounds<R: Rules>(run: &Run<R>) -> Option<u32>
-    ensures count { result ≡ rounds_of run.now.recorder.counting }
-    ensures some { IfSome run.now.recorder.counting (λ count. HasRounds R.table (recording_moment run.now.recorder) count) }
-{
-    run.recorder.net().rounds()
-}
 
 impl Machine {
     fn count_rounds(&mut self) -> Result<(), Want>
@@ -42,7 +33,7 @@ impl Session {
         ensures rounds { result ≡ rounds_of (stands self.now).counting }
         ensures some { IfSome (stands self.now).counting (λ count. HasRounds (table_of (rules_of self.now)) (stands self.now).moment count) }
     {
-        with_run!(&self.machine, run => rounds(run))
+        with_run!(&self.machine, run => run.recorder.net().rounds())
     }
 
     fn rounds_left(&mut self) -> Option<u32>
@@ -61,9 +52,7 @@ impl Session {
 pub extern "C" fn rudekpi_count_rounds(alloc: Global, slot: &mut Slot) -> u32
     ensures { AnswersCounting result slot.old.handle.value slot.new.handle.value }
 {
-    let mut session = some_or!(slot.take(alloc), NO_SESSION);
-    let done = session.machine.count_rounds();
-    slot.put(session);
+    let done = look!(alloc, slot, NO_SESSION, session => session.machine.count_rounds());
     ok_or!(done, MEMORY);
     DONE
 }
@@ -79,9 +68,7 @@ pub extern "C" fn rudekpi_rounds(alloc: Global, slot: &mut Slot, rounds: &mut u3
     ensures kept { slot.new.handle.value ≡ slot.old.handle.value }
 {
     *rounds = 0;
-    let session = some_or!(slot.take(alloc), NO_SESSION);
-    let found = session.rounds();
-    slot.put(session);
+    let found = look!(alloc, slot, NO_SESSION, session => session.rounds());
     *rounds = some_or!(found, NOT_COUNTED);
     DONE
 }
@@ -95,9 +82,7 @@ pub extern "C" fn rudekpi_rounds_left(alloc: Global, slot: &mut Slot, left: &mut
     ensures kept { slot.new.handle.value ≡ slot.old.handle.value }
 {
     *left = 0;
-    let mut session = some_or!(slot.take(alloc), NO_SESSION);
-    let found = session.rounds_left();
-    slot.put(session);
+    let found = look!(alloc, slot, NO_SESSION, session => session.rounds_left());
     *left = some_or!(found, NOT_COUNTED);
     DONE
 }

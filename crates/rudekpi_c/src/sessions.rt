@@ -1,14 +1,24 @@
-//! Sessions that are fed script lines.
+//! Sessions: they begin or go on, are fed script lines, and can be numbered from 1 again.
 
-ghost use Rattle.std.specs.Prelude.{◌≡◌, None};
+ghost use Rattle.std.specs.Prelude.{◌≡◌, None, IfOk, OnErr, OnOk, length};
+ghost use Rattle.run_session.specs.Line.{progress_of};
+ghost use Rattle.script_text.specs.Script.{with_checkpoint};
+ghost use Rattle.rudekpi_c.specs.Renumbering.{renumbered, length_if, AnswersRenumber};
+ghost use Rattle.rudekpi_c.specs.Resumption.{ResumesSession};
+ghost use Rattle.rudekpi_c.specs.Session.{stands_at, HasSameRules};
+ghost use Rattle.rudekpi_c.specs.SessionQuestions.{AnswersKeep};
 ghost use Rattle.rudekpi_c.specs.Slot.{OpensSession, AnswersFeed, Handed, line_status, named, text_length};
 
-use crate::session::Session;
-use crate::slot::Slot;
+use crate::audits;
+use crate::session::{Machine, Session, with_run};
+use crate::slot::{Slot, look};
 use crate::status::{BAD_ARGUMENT, BAD_LINE, DONE, LOG_FULL, MEMORY, NO_SESSION, ok_or, some_or};
-use rule_machine::{MAX_NAME, RuleSet};
-use run_session::LineError;
-use std::alloc::Global;
+use crate::verdict::{Verdict, verdict_of};
+use auditor::end_of_bytes;
+use line_text::put_base;
+use rule_machine::{MAX_NAME, RuleSet, Rules, Want};
+use run_session::{LineError, Run};
+use std::alloc::{AllocError, Global};
 use step_log::RecordFault;
 
 fn rules_named(rules: u32) -> RuleSet
@@ -47,6 +57,35 @@ pub extern "C" fn rudekpi_session_new(
     DONE
 }
 
+/// Begins a session that goes on where the run of a transcript ended, in place of the slot's old session.
+///
+/// `verdict` is that of `rudekpi_audit` on the bytes. The session's text begins with the base at the end of
+/// the run, and entries go on at the next number. Returns 7 if the bytes are damaged; 3 if memory runs out:
+/// the verdict is then of kind 6, or accepts the bytes. After 7 or 3 the slot is empty.
+#[unsafe(no_mangle)]
+pub extern "C" fn rudekpi_session_resume(
+    alloc: Global,
+    slot: &mut Slot,
+    bytes: &[u8],
+    verdict: &mut Verdict,
+) -> u32
+    ensures { ResumesSession bytes.now result verdict.new slot.new.handle.value }
+{
+    drop(slot.take(alloc));
+    let end = match end_of_bytes(alloc, bytes) {
+        Ok(end) => end,
+        Err(fault) => {
+            *verdict = verdict_of(Err(fault));
+            return audits::status_of(Err(fault));
+        }
+    };
+    *verdict = verdict_of(Ok(end.summary));
+    let session = ok_or!(Session::resume(alloc, end), MEMORY);
+    let session = ok_or!(Box::new(alloc, session), MEMORY);
+    slot.put(session);
+    DONE
+}
+
 /// Carries out the session's next line, given without its LF, and writes the line's number.
 ///
 /// | Status | When |
@@ -79,10 +118,7 @@ pub extern "C" fn rudekpi_session_length(alloc: Global, slot: &mut Slot) -> usiz
     ensures kept { slot.new.handle.value ≡ slot.old.handle.value }
     ensures len { result ≡ text_length slot.old.handle.value }
 {
-    let session = some_or!(slot.take(alloc), 0);
-    let len = session.text().len();
-    slot.put(session);
-    len
+    look!(alloc, slot, 0, session => session.text().len())
 }
 
 /// Copies the text to the start of `out` and drops the text, if all of it fits; returns its length.
@@ -103,6 +139,76 @@ pub extern "C" fn rudekpi_session_read(alloc: Global, slot: &mut Slot, out: &mut
     session.machine.settle(false);
     slot.put(session);
     len
+}
+
+/// Sets whether the session keeps its text from now on. If not, the text so far is dropped too.
+///
+/// Returns 4 if there is no session.
+#[unsafe(no_mangle)]
+pub extern "C" fn rudekpi_transcript(alloc: Global, slot: &mut Slot, keeps: bool) -> u32
+    ensures { AnswersKeep keeps result slot.old.handle.value slot.new.handle.value }
+{
+    let mut session = some_or!(slot.take(alloc), NO_SESSION);
+    session.keeps = keeps;
+    slot.put_back(session);
+    DONE
+}
+
+/// Adds the bases that end and begin the transcripts; returns the length of the text of the first.
+fn renumber<R: Rules>(run: &mut Run<R>) -> Result<usize, Want>
+    ensures ok { OnOk result (progress_of run.new ≡ renumbered (progress_of run.old)) }
+    ensures ended { IfOk result (λ ended. ended ≡ length (with_checkpoint (progress_of run.old)).text) }
+    ensures err { OnErr result (progress_of run.new ≡ progress_of run.old) }
+    ensures limit { run.new.recorder.limit ≡ run.old.recorder.limit }
+{
+    let before = run.text.len();
+    let base = run.recorder.net().base(0)?;
+    run.checkpoint()?;
+    let ended = run.text.len();
+    let size = run.recorder.net().store().capacity();
+    if put_base(&mut run.text, run.rules, size, &base).is_err() {
+        run.text.truncate(before);
+        return Err(AllocError);
+    }
+    run.recorder.renumber();
+    Ok(ended)
+}
+
+impl Machine {
+    fn renumber(&mut self) -> Result<usize, Want>
+        ensures ok { OnOk result (stands_at self.new ≡ renumbered (stands_at self.old)) }
+        ensures ended { IfOk result (λ ended. ended ≡ length (with_checkpoint (stands_at self.old)).text) }
+        ensures err { OnErr result (stands_at self.new ≡ stands_at self.old) }
+        ensures same { HasSameRules self.old self.new }
+    {
+        with_run!(self, run => renumber(run))
+    }
+}
+
+fn length_if(keeps: bool, length: usize) -> usize
+    ensures { result ≡ length_if keeps length }
+{
+    if keeps { length } else { 0 }
+}
+
+/// Ends the transcript with the base of the state, and begins the next transcript in the same state.
+///
+/// The next transcript begins with the base of the state, numbered 0, and its first entry has the number 1.
+/// The network and the moves spent do not change. `ended` becomes how many bytes of the unread text belong to
+/// the transcript that ends; 0 if no transcript is kept. Returns 3 if memory runs out, and 4 if there is no
+/// session; then nothing has changed and `ended` is 0. Costs two checkpoints.
+#[unsafe(no_mangle)]
+pub extern "C" fn rudekpi_session_renumber(alloc: Global, slot: &mut Slot, ended: &mut usize) -> u32
+    ensures { AnswersRenumber result ended.new slot.old.handle.value slot.new.handle.value }
+{
+    *ended = 0;
+    let mut session = some_or!(slot.take(alloc), NO_SESSION);
+    let done = session.machine.renumber();
+    let keeps = session.keeps;
+    slot.put_back(session);
+    let length = ok_or!(done, MEMORY);
+    *ended = length_if(keeps, length);
+    DONE
 }
 
 /// Ends the session, if there is one.

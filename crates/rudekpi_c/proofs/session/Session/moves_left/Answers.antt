@@ -2,7 +2,7 @@ use Rattle.std.proofs.Common.{◌≡◌, ℕ, sym, subst}
 use Rattle.rule_machine.specs.Tables.{table_of}
 use Rattle.move_bounds.specs.MovesLeft.{moves_left}
 use Rattle.rudekpi_c.specs.declared.session.Machine.{Machine}
-use Rattle.rudekpi_c.specs.MovesLeftCalls.{most_of}
+use Rattle.rudekpi_c.specs.CostCalls.{most_of}
 use Rattle.rudekpi_c.specs.Session.{stands_at, rules_at}
 use Rattle.rudekpi_c.proofs.session.Session.moves_left.Goals as goal
 

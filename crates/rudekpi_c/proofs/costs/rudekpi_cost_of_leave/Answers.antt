@@ -1,5 +1,0 @@
-use Rattle.rule_machine.specs.declared.event.Event.TheVariants.{Leave}
-use Rattle.rudekpi_c.proofs.costs.rudekpi_cost_of_leave.Goals as goal
-
-pub returns-clause-costed : goal.returns-clause-costed
-returns-clause-costed c = c.cost_of.ensures.costed (Leave c.args.node) c.leave.ensures

@@ -1,5 +1,0 @@
-use Rattle.rule_machine.specs.declared.event.Event.TheVariants.{Flag}
-use Rattle.rudekpi_c.proofs.reach.rudekpi_reach_of_flag.Goals as goal
-
-pub returns-clause-reached : goal.returns-clause-reached
-returns-clause-reached c = c.reach_of.ensures.reached (Flag c.args.node c.args.value) c.flag.ensures

@@ -1,5 +1,0 @@
-use Rattle.rule_machine.specs.declared.event.Event.TheVariants.{Leave}
-use Rattle.rudekpi_c.proofs.reach.rudekpi_reach_of_leave.Goals as goal
-
-pub returns-clause-reached : goal.returns-clause-reached
-returns-clause-reached c = c.reach_of.ensures.reached (Leave c.args.node) c.leave.ensures

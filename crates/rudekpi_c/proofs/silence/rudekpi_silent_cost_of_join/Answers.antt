@@ -1,5 +1,0 @@
-use Rattle.rule_machine.specs.declared.event.Event.TheVariants.{Join}
-use Rattle.rudekpi_c.proofs.silence.rudekpi_silent_cost_of_join.Goals as goal
-
-pub returns-clause-answers : goal.returns-clause-answers
-returns-clause-answers c = c.silent_cost.ensures.answers (Join c.args.node) c.join.ensures
