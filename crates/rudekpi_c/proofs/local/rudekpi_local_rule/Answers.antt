@@ -1,12 +1,8 @@
-use Rattle.std.proofs.Common.{◌≡◌, ◌≢◌, ℕ, map, Some, refl, sym, ap, ◌∙◌, arith}
+use Rattle.std.proofs.Common.{◌≡◌, ◌≢◌, ℕ, map, refl, sym, ap, ◌∙◌, arith}
 use Rattle.std.specs.List.{AllByRecursion}
-use Rattle.rule_machine.specs.State.{State}
-use Rattle.rule_machine.specs.Tables.{table_of}
 use Rattle.local_rule.specs.Faults.{first_fault}
-use Rattle.local_rule.specs.Moves.{move_at}
-use Rattle.local_rule.specs.Views.{ShowsAtNode, IsShown, IsNeverShown}
-use Rattle.rudekpi_c.specs.LocalCalls.{AreNames, record_named, move_told, fault_status}
-use Rattle.rudekpi_c.proofs.LocalCalls.{nearest_of_record, as_named, if_fault, told_fault, told_no_fault, status_known, status_not_five}
+use Rattle.rudekpi_c.specs.LocalCalls.{AreNames, record_named, fault_status}
+use Rattle.rudekpi_c.proofs.LocalCalls.{nearest_of_record, told_from, shown_from, never_from, fault_from, if_fault, told_fault, told_no_fault, status_known, status_not_five}
 use Rattle.rudekpi_c.proofs.local.rudekpi_local_rule.Goals as goal
 
 pub returns-in-Ok : goal.returns-in-Ok
@@ -21,9 +17,9 @@ returns-in-Ok c =
       done = λ _ _. (
         c.in-Some.value,
         sym c.in-Some.ensures,
-        λ s shows. c.move_told.ensures ∙ ap (move_told own) (as_named (λ n rows. (s : State) → ShowsAtNode s n rows → c.in-Ok.made ≡ move_at (table_of c.in-Some.value) s n.node) same names c.in-Ok.ensures.machine s shows),
+        λ s shows. c.move_told.ensures ∙ told_from c.in-Some.value own around node c.in-Ok.made same names c.in-Ok.ensures.machine s shows,
       );
-      shown = λ _ _. as_named (λ n rows. IsShown n rows) same names c.in-Ok.ensures.shown;
+      shown = λ _ _. shown_from own around node same names c.in-Ok.ensures.shown;
       never = λ e. absurd (e none);
       fault = λ e. absurd (e none);
       named = λ e. absurd (omega (arith, e));
@@ -45,8 +41,8 @@ returns-in-Err c =
     record {
       done = λ _ e. absurd (some e);
       shown = λ _ e. absurd (some e);
-      never = λ _. as_named (λ n rows. IsNeverShown n rows) same names c.in-Err.ensures.never;
-      fault = λ _. if_fault (first_fault (record_named own) (map record_named around)) _ why (as_named (λ n rows. first_fault n rows ≡ Some why) same names c.in-Err.ensures.fault) (c.fault_told.ensures, c.fault_status.ensures);
+      never = λ _. never_from own around node same names c.in-Err.ensures.never;
+      fault = λ _. if_fault (first_fault (record_named own) (map record_named around)) _ why (fault_from own around node why same names c.in-Err.ensures.fault) (c.fault_told.ensures, c.fault_status.ensures);
       named = λ _. some;
       bad = λ e. absurd (status_not_five why (sym c.fault_status.ensures ∙ e));
       nothing = λ e. absurd (status_not_five why (sym c.fault_status.ensures ∙ e));

@@ -1,11 +1,7 @@
-use Rattle.std.proofs.Common.{◌≡◌, refl, sym, ap, ◌∙◌, arith}
+use Rattle.std.proofs.Common.{◌≡◌, refl, sym, ◌∙◌, arith}
 use Rattle.std.specs.List.{AllByRecursion}
-use Rattle.rule_machine.specs.State.{State}
-use Rattle.rule_machine.specs.Tables.{table_of}
-use Rattle.local_rule.specs.Moves.{may_move_at}
-use Rattle.local_rule.specs.Views.{ShowsAtNode, IsShown, IsNeverShown}
-use Rattle.rudekpi_c.specs.LocalCalls.{AreNames, record_named}
-use Rattle.rudekpi_c.proofs.LocalCalls.{nearest_of_record, as_named}
+use Rattle.rudekpi_c.specs.LocalCalls.{AreNames, record_named, pointer_named}
+use Rattle.rudekpi_c.proofs.LocalCalls.{nearest_of_record, may_from, shown_from, never_from}
 use Rattle.rudekpi_c.proofs.local.rudekpi_may_move.Goals as goal
 
 pub returns-in-Ok : goal.returns-in-Ok
@@ -21,10 +17,9 @@ returns-in-Ok c =
         sym c.in-Some.ensures,
         c.in-Some-rule_given.value,
         sym c.in-Some-rule_given.ensures,
-        λ s shows. as_named (λ n rows. (s : State) → ShowsAtNode s n rows → c.in-Ok.allowed ≡ may_move_at (table_of c.in-Some.value) s n.node c.in-Some-rule_given.value c.in-Some-target_given.value) same names c.in-Ok.ensures.machine s shows
-            ∙ ap (may_move_at (table_of c.in-Some.value) s own.node c.in-Some-rule_given.value) c.in-Some-target_given.ensures.1,
+        may_from c.in-Some.value own around node c.in-Some-rule_given.value c.in-Some-target_given.value (pointer_named c.args.target) c.in-Ok.allowed same names c.in-Some-target_given.ensures.1 c.in-Ok.ensures.machine,
       );
-      shown = λ _. as_named (λ n rows. IsShown n rows) same names c.in-Ok.ensures.shown;
+      shown = λ _. shown_from own around node same names c.in-Ok.ensures.shown;
       never = λ e. absurd (omega (arith, e));
       bad = λ e. absurd (omega (arith, e));
       nothing = λ e. absurd (e refl);
@@ -41,7 +36,7 @@ returns-in-Err c =
     record {
       done = λ e. absurd (omega (arith, e));
       shown = λ e. absurd (omega (arith, e));
-      never = λ _. as_named (λ n rows. IsNeverShown n rows) same names c.in-Err.ensures.never;
+      never = λ _. never_from own around node same names c.in-Err.ensures.never;
       bad = λ e. absurd (omega (arith, e));
       nothing = λ _. refl;
       only = λ _ nine. absurd (nine refl);
