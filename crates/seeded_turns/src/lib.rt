@@ -2,7 +2,7 @@
 //!
 //! An `EventSource` finds the next event from the network's present state and the words of one generator.
 //! `daemon_of_seed` serves the line `drive S K` with steps that `daemon::Seeded` chooses. `injector_of_seed`
-//! serves the line `scramble S K` with faults that `fault_injector` draws. Both seed the PCG of `rand_pcg` with S;
+//! serves the line `scramble S K` with faults that `fault_injector` draws. Both seed `rand_pcg`'s PCG with S;
 //! the events depend only on S and the states in between. `None` ends a line's turns: no node is enabled
 //! (`drive`), or the network has no node (`scramble`).
 //!
