@@ -1,4 +1,5 @@
 //! The bounds on moves, as laws of all runs.
+#![tactic(auto, using(crate::proofs::Proved::hsu_huang_laws, crate::proofs::Proved::manne_laws))]
 
 ghost use Rattle.rule_machine.specs.HsuHuang.{hsu_huang};
 ghost use Rattle.rule_machine.specs.Manne.{manne};

@@ -35,6 +35,7 @@ pub fn disturbances_cost()
 /// A run's moves plus the charge at its end are at most the charge at its start plus all costs.
 ///
 /// The costs are those of the run's disturbances. Holds from any state, whatever the daemon chooses.
+#[tactic(auto, using(crate::proofs::Proved::hsu_huang_laws, crate::proofs::Proved::manne_laws))]
 pub fn disturbed_moves_are_paid()
     ensures hsu_huang { DisturbedMovesArePaid hsu_huang hsu_huang_cost }
     ensures manne { DisturbedMovesArePaid manne manne_cost }

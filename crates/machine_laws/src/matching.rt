@@ -10,6 +10,7 @@ ghost use Rattle.rule_machine.specs.State.{State, IsState, pointer, flag, marrie
 ghost use Rattle.rule_machine.specs.Stable.{IsStable, IsMaximalMatching, ShareAnEnd, mutual_pairs};
 
 /// The mutual pairs of any state are edges, and no two of them share an end.
+#[tactic(auto, using(crate::proofs::MaximalMatchings::pairs_are_edges))]
 pub fn mutual_pairs_apart()
     ensures edges { (s : State) → IsState s → All (λ e. IsTrue (map.contains_key s.network.edges e)) (mutual_pairs s) }
     ensures apart { (s : State) (e f : ℕ × ℕ) → Contains (mutual_pairs s) e → Contains (mutual_pairs s) f → ShareAnEnd e f → e ≡ f }

@@ -30,6 +30,7 @@ pub fn fewer_moves_settle()
 {}
 
 /// A silent network stays silent until a disturbance.
+#[tactic(auto, using(crate::proofs::Proved::hsu_huang_laws, crate::proofs::Proved::manne_laws))]
 pub fn silence_lasts()
     ensures hsu_huang { SilenceLasts hsu_huang }
     ensures manne { SilenceLasts manne }
@@ -38,6 +39,7 @@ pub fn silence_lasts()
 /// A driven run without a disturbance ends silent if its entries reach the charge at its start.
 ///
 /// A run is driven if each entry moves a node or is made while no rule is enabled.
+#[tactic(auto, using(crate::proofs::Proved::hsu_huang_laws, crate::proofs::Proved::manne_laws))]
 pub fn long_runs_end_silent()
     ensures hsu_huang { LongRunsEndSilent hsu_huang }
     ensures manne { LongRunsEndSilent manne }
