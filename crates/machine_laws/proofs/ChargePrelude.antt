@@ -18,14 +18,13 @@ pub use Rattle.std.specs.Ordering.{is_eq, eq_by_cmp, is_lt, nat_cmp}
 pub use Rattle.std.specs.declared.cmp.Ordering.{Ordering}
 pub use Rattle.std.specs.declared.cmp.Ordering.TheVariants.{Less, Equal, Greater}
 pub use Rattle.machine_laws.proofs.AcceptedEvents.{cond_none, none_cond, true_from_not}
-pub use Rattle.machine_laws.proofs.Bases.{base_tells}
 pub use Rattle.machine_laws.proofs.Edges.{left_was, removed_was, inserted_cases, present_other, still_present, pair_total, pair_exact, contains-remove}
 pub use Rattle.machine_laws.proofs.EnabledNodes.{no_act, quiet_at, quiet_from}
 pub use Rattle.machine_laws.proofs.LeastAnswers.{makes_move_of}
 pub use Rattle.machine_laws.proofs.LeastMoves.{IsTable, find_passes}
 pub use Rattle.machine_laws.proofs.Leaves.{without_pointer_stays, nothing_left}
 pub use Rattle.machine_laws.proofs.Neighbours.{linked_present, option_cases, linked_back, linked_apart, present_range, linked_pair, near_some, near_found, near_fails}
-pub use Rattle.machine_laws.proofs.Pointers.{points_true, pointer_linked, suitor_linked, null_unmarried, unanswered_unmarried, partner_some, no_suitor, points_from, partner_from, some_is, suitor_some, suitor_from, married_some, married_from}
+pub use Rattle.machine_laws.proofs.Pointers.{points_true, pointer_linked, suitor_linked, absent_null, null_unmarried, unanswered_unmarried, partner_some, no_suitor, points_from, partner_from, some_is, suitor_some, suitor_from, married_some, married_from}
 pub use Rattle.machine_laws.proofs.Runs.{answers_keep, runs_end_in_states}
 pub use Rattle.machine_laws.proofs.Sizes.{runs_keep_size}
 pub use Rattle.machine_laws.proofs.StatePreservation.{unlink_keeps, leave_keeps, opening_is_state, point_keeps, link_keeps, join_keeps, left_pointer, flag_keeps, moves_keep}

@@ -7,7 +7,6 @@ use Rattle.machine_laws.proofs.EdgeChanges.{taken_out}
 use Rattle.machine_laws.proofs.Members.{in_names, names_present, in_edges, edges_contain, names_without_repeats}
 use Rattle.machine_laws.proofs.EdgesByNodes.{edges_without_repeats}
 use Rattle.machine_laws.proofs.Stances.{stance, is_waiting, waiting_from, waiting_is, unanswered_is}
-use Rattle.machine_laws.proofs.PresentMovers.{pointer_present}
 use Rattle.machine_laws.proofs.Degrees.{edges_at}
 use Rattle.machine_laws.proofs.PaidMoves.{bit, IsSeen}
 
@@ -68,9 +67,6 @@ linked_edges s a b e there clear =
   where
     ends : (e : ℕ × ℕ) → e ≡ edge a b → (is_end a e && is_end b e) ≡ true
     ends e new = grind (arith, min, max)
-
-pub absent_null : (s : State) (v : ℕ) → IsState s → present s.network v ≡ false → pointer s v ≡ None
-absent_null s v good absent = nothing_left (pointer s v) (λ w e. true≢false (sym (pointer_present s v w good e) ∙ absent))
 
 pub joined_names : (s : State) (v x : ℕ) → IsIn x (names (after_join s v).network) → IsIn x (names s.network) ⊎ (x ≡ v)
 joined_names s v x there = ⊎_elim (λ same. inr same) (λ apart. inl (in_names s.network x (sym (present_other s.network v true x apart) ∙ names_present (after_join s v).network x there))) (cases_eq x v)

@@ -1,5 +1,5 @@
 -- By how much the charge grows under Hsu and Huang's rules at one disturbance.
-use Rattle.machine_laws.proofs.ChargePrelude.{◌≡◌, ◌≢◌, ℕ, ◌+◌, ◌-◌, ◌*◌, ◌≤◌, Bool, true, false, cond, not, ◌&&◌, ◌||◌, count_by, nat_eq, Option, None, Some, is_none, IsTrue, refl, sym, ap, ◌∙◌, inl, inr, ⊎_elim, ◌⊎◌, arith, cases_eq, true≢false, is_end, linked, present, names, edge_list, State, IsState, is_at, pointer, points, married, has_suitor, is_unanswered, hsu_huang_closed, hsu_huang_charge, after_link, after_unlink, after_point, after_join, after_leave, linked_apart, pointer_linked, left_was, holds_at, link_keeps, unlink_keeps, point_keeps, join_keeps, leave_keeps, degree, degree_at, hsu_huang_point_cost}
+use Rattle.machine_laws.proofs.ChargePrelude.{◌≡◌, ◌≢◌, ℕ, ◌+◌, ◌-◌, ◌*◌, ◌≤◌, Bool, true, false, cond, not, ◌&&◌, ◌||◌, count_by, nat_eq, Option, None, Some, is_none, IsTrue, refl, sym, ap, ◌∙◌, inl, inr, ⊎_elim, ◌⊎◌, arith, cases_eq, true≢false, is_end, linked, present, names, edge_list, State, IsState, is_at, pointer, points, married, has_suitor, is_unanswered, hsu_huang_closed, hsu_huang_charge, after_link, after_unlink, after_point, after_join, after_leave, linked_apart, absent_null, pointer_linked, left_was, holds_at, link_keeps, unlink_keeps, point_keeps, join_keeps, leave_keeps, degree, degree_at, hsu_huang_point_cost}
 use Rattle.machine_laws.proofs.ListCounts.{IsIn, count_or}
 use Rattle.machine_laws.proofs.Members.{edges_contain}
 use Rattle.machine_laws.proofs.EdgesByNodes.{zeros}
@@ -7,7 +7,7 @@ use Rattle.machine_laws.proofs.Stances.{unanswered_alone}
 use Rattle.machine_laws.proofs.Degrees.{edges_at, at_linked, at_one, one_between}
 use Rattle.machine_laws.proofs.DegreesLeft.{degree_without_edge, degree_left_at}
 use Rattle.machine_laws.proofs.PaidMoves.{IsSeen, seen}
-use Rattle.machine_laws.proofs.Disturbed.{IsSubNetwork, same_network, WaitsOnly, grows, no_nodes, no_edges, one_node, two_nodes, IsTouching, still_married, IsWritten, written_at, waiting_touches, waiting_waits, some_touches, some_waits, null_touches, null_waits, again, same_touches, same_waits, linked_edges, absent_null, joined_names, cut_touches, across, unlink_cuts, unlink_waits, unlink_within, beside, leave_cuts, leave_waits, leave_within, edges_if, edges_at_pointer}
+use Rattle.machine_laws.proofs.Disturbed.{IsSubNetwork, same_network, WaitsOnly, grows, no_nodes, no_edges, one_node, two_nodes, IsTouching, still_married, IsWritten, written_at, waiting_touches, waiting_waits, some_touches, some_waits, null_touches, null_waits, again, same_touches, same_waits, linked_edges, joined_names, cut_touches, across, unlink_cuts, unlink_waits, unlink_within, beside, leave_cuts, leave_waits, leave_within, edges_if, edges_at_pointer}
 
 -- ---- closed edges
 

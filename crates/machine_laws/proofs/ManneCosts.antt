@@ -1,5 +1,5 @@
 -- By how much the charge grows under Manne's rules at one disturbance.
-use Rattle.machine_laws.proofs.ChargePrelude.{◌≡◌, ◌≢◌, ℕ, ◌+◌, ◌-◌, ◌*◌, ◌≤◌, Bool, true, false, cond, not, ◌&&◌, ◌||◌, List, count_by, nat_eq, get_or, Option, None, Some, IsTrue, refl, sym, ap, ◌∙◌, subst, inl, inr, ⊎_elim, arith, cases_eq, cases_lt, and_parts, or_parts, or_from, ne_eqb, eq-eqb, get_or-set_same, get_or-set_other, get_or_past, length-set, set, degree_at, true≢false, Network, is_end, linked, present, names, edge_list, State, IsState, is_at, pointer, flag, points, is_mutual, partner, married, has_suitor, is_unanswered, manne_closed, manne_node_charge, manne_charge, after_link, after_unlink, after_point, after_flag, after_join, after_leave, without_pointer, linked_apart, present_range, pointer_linked, partner_from, false_from_ne_true, left_was, flag-with_flag_other, flag-with_flag_same, without_pointer_flags, link_keeps, unlink_keeps, point_keeps, flag_keeps, join_keeps, leave_keeps, degree, manne_point_cost, suitor_from, points_true, points_from}
+use Rattle.machine_laws.proofs.ChargePrelude.{◌≡◌, ◌≢◌, ℕ, ◌+◌, ◌-◌, ◌*◌, ◌≤◌, Bool, true, false, cond, not, ◌&&◌, ◌||◌, List, count_by, nat_eq, get_or, Option, None, Some, IsTrue, refl, sym, ap, ◌∙◌, subst, inl, inr, ⊎_elim, arith, cases_eq, cases_lt, and_parts, or_parts, or_from, ne_eqb, eq-eqb, get_or-set_same, get_or-set_other, get_or_past, length-set, set, degree_at, true≢false, Network, is_end, linked, present, names, edge_list, State, IsState, is_at, pointer, flag, points, is_mutual, partner, married, has_suitor, is_unanswered, manne_closed, manne_node_charge, manne_charge, after_link, after_unlink, after_point, after_flag, after_join, after_leave, without_pointer, linked_apart, present_range, absent_null, pointer_linked, partner_from, false_from_ne_true, left_was, flag-with_flag_other, flag-with_flag_same, without_pointer_flags, link_keeps, unlink_keeps, point_keeps, flag_keeps, join_keeps, leave_keeps, degree, manne_point_cost, suitor_from, points_true, points_from}
 use Rattle.machine_laws.proofs.ListCounts.{IsIn, sum_twice}
 use Rattle.machine_laws.proofs.EdgesByNodes.{zeros}
 use Rattle.machine_laws.proofs.Members.{edges_contain, names_present}
@@ -7,7 +7,7 @@ use Rattle.machine_laws.proofs.Stances.{unanswered_alone}
 use Rattle.machine_laws.proofs.Degrees.{at_either, at_linked, one_between}
 use Rattle.machine_laws.proofs.DegreesLeft.{degree_without_edge}
 use Rattle.machine_laws.proofs.PaidMoves.{bit, seen}
-use Rattle.machine_laws.proofs.Disturbed.{IsSubNetwork, same_network, WaitsOnly, grows, no_nodes, no_edges, one_node, two_nodes, wed_stays, still_married, IsWritten, written_at, waiting_waits, some_touches, some_waits, null_waits, same_waits, linked_edges, absent_null, joined_names, unlink_cuts, unlink_waits, unlink_within, leave_cuts, leave_waits, leave_within, uncrossed, edges_if, edges_at_pointer}
+use Rattle.machine_laws.proofs.Disturbed.{IsSubNetwork, same_network, WaitsOnly, grows, no_nodes, no_edges, one_node, two_nodes, wed_stays, still_married, IsWritten, written_at, waiting_waits, some_touches, some_waits, null_waits, same_waits, linked_edges, joined_names, unlink_cuts, unlink_waits, unlink_within, leave_cuts, leave_waits, leave_within, uncrossed, edges_if, edges_at_pointer}
 
 -- ---- what stays
 

@@ -1,6 +1,6 @@
 -- Pointers, suitors and partners.
-use Rattle.machine_laws.proofs.Prelude.{same_Some, none-some, false_from_ne_true, ◌≡◌, ◌≢◌, ℕ, true, false, Option, None, Some, is_some, IsTrue, sym, ap, ◌∙◌, subst, and_parts, and_from, linked, State, IsState, points, pointer, suits, first_suitor, has_suitor, is_mutual, partner, married, arith}
-use Rattle.machine_laws.proofs.Neighbours.{linked_back, near_none, near_some, near_found}
+use Rattle.machine_laws.proofs.Prelude.{same_Some, none-some, false_from_ne_true, ◌≡◌, ◌≢◌, ℕ, true, false, Option, None, Some, is_some, IsTrue, sym, ap, ◌∙◌, subst, and_parts, and_from, linked, present, State, IsState, points, pointer, suits, first_suitor, has_suitor, is_mutual, partner, married, arith}
+use Rattle.machine_laws.proofs.Neighbours.{option_cases, linked_present, linked_back, near_none, near_some, near_found}
 use Rattle.machine_laws.proofs.Writes.{if_some_at, some_from_is_at, is_at_from_some}
 
 -- a search that found something
@@ -20,6 +20,10 @@ points_from s v w h = is_at_from_some (pointer s v) w h
 -- a pointer crosses an edge
 pub pointer_linked : (s : State) (v w : ℕ) → IsState s → pointer s v ≡ Some w → IsTrue (linked s.network v w)
 pointer_linked s v w is_state e = if_some_at (pointer s v) (λ x. IsTrue (linked s.network v x)) w e (is_state.neighbourly v)
+
+-- an absent node points nowhere
+pub absent_null : (s : State) (v : ℕ) → IsState s → present s.network v ≡ false → pointer s v ≡ None
+absent_null s v good absent = grind (arith, option_cases, pointer_linked, linked_present)
 
 -- a node that points at v is a neighbour of v
 pub suitor_linked : (s : State) (v w : ℕ) → IsState s → pointer s w ≡ Some v → IsTrue (linked s.network v w)

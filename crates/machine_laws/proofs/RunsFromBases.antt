@@ -1,5 +1,6 @@
 -- Runs that begin at a base: each moment of a run is a valid base, and runs from it stay within the bound.
-use Rattle.machine_laws.proofs.ChargePrelude.{◌≡◌, ℕ, List, Option, None, Some, refl, sym, ◌∙◌, subst, Base, Network, IsState, RuleTable, Entry, Moment, Run, beginning_with, base_of, IsBaseMoment, BeginsAt, base_tells, IsTable, opening_is_state, runs_end_in_states, runs_keep_size, IsFlagless, opening_is_unflagged, runs_stay_unflagged, charge_bound, IsCharged, IsWithinBound}
+use Rattle.machine_laws.proofs.ChargePrelude.{◌≡◌, ℕ, List, Option, None, Some, refl, sym, ◌∙◌, subst, Base, Network, IsState, RuleTable, Entry, Moment, Run, beginning_with, base_of, IsBaseMoment, BeginsAt, IsTable, opening_is_state, runs_end_in_states, runs_keep_size, IsFlagless, opening_is_unflagged, runs_stay_unflagged, charge_bound, IsCharged, IsWithinBound}
+use Rattle.machine_laws.proofs.Bases.{base_tells}
 use Rattle.machine_laws.proofs.ChargesOfRuns.{run_within}
 use Rattle.machine_laws.proofs.Laws.{beginning_is_within}
 

@@ -1,5 +1,4 @@
 pub mod MoveTests
-pub mod StatesAfterReplies
 pub mod TwoPasses
 pub mod HalfMatchings
 pub mod ChargeWords
