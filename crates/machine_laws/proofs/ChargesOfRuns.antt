@@ -1,5 +1,5 @@
 -- Bounds on runs from the charge, for any rule set whose steps lower the charge.
-use Rattle.machine_laws.proofs.ChargePrelude.{◌≡◌, ◌≢◌, ℕ, ◌+◌, ◌≤◌, List, [], ◌∷◌, Option, None, Some, refl, sym, ap, ◌∙◌, subst, arith, All-head, All-tail, sum_by-cons, Item, Moved, Event, Link, Unlink, Point, Flag, Step, Show, Enabled, Matching, Status, Join, Leave, Refusal, Reply, Accepted, Moves, Shown, EnabledAre, Pairs, Counts, State, IsState, RuleTable, IsStep, refusal_of, Does, AnswersBy, Answers, spent_after, Entry, Moment, Run, IsTable, answers_keep, charge_bound, IsCharged, moves_of, moves_in, IsUndisturbed, IsWithinBound}
+use Rattle.machine_laws.proofs.ChargePrelude.{◌≡◌, ◌≢◌, ℕ, ◌+◌, ◌≤◌, List, [], ◌∷◌, Option, None, Some, refl, sym, ap, ◌∙◌, subst, arith, All-head, All-tail, sum_by-cons, Item, Moved, Event, Step, Show, Enabled, Matching, Status, Refusal, Reply, Accepted, Moves, Shown, EnabledAre, Pairs, Counts, State, IsState, RuleTable, IsStep, refusal_of, Does, AnswersBy, Answers, spent_after, Entry, Moment, Run, IsTable, answers_keep, charge_bound, IsCharged, moves_of, moves_in, IsUndisturbed, IsWithinBound}
 
 -- ---- one answer
 
@@ -10,17 +10,12 @@ pub data Effect (t : RuleTable) (s : State) (reply : Reply) (s' : State) : Type 
   disturbs : reply ≡ Accepted → Effect t s reply s'
 
 does_effect : (t : RuleTable) (s : State) (n : ℕ) (event : Event) (reply : Reply) (s' : State) → Does t s n event reply s' → Effect t s reply s'
-does_effect t s n (Link a b) Accepted s' does = disturbs refl
-does_effect t s n (Unlink a b) Accepted s' does = disturbs refl
-does_effect t s n (Point v target) Accepted s' does = disturbs refl
-does_effect t s n (Flag v value) Accepted s' does = disturbs refl
-does_effect t s n (Join v) Accepted s' does = disturbs refl
-does_effect t s n (Leave v) Accepted s' does = disturbs refl
 does_effect t s n (Step items) (Moves moves) s' does = steps items moves refl does
 does_effect t s n (Show v) (Shown target) s' does = rests does.1 refl (λ m. refl)
 does_effect t s n Enabled (EnabledAre nodes) s' does = rests does.1 refl (λ m. refl)
 does_effect t s n Matching (Pairs pairs) s' does = rests does.1 refl (λ m. refl)
 does_effect t s n Status (Counts counts) s' does = rests does.1 refl (λ m. refl)
+does_effect t s n event Accepted s' does = disturbs refl
 does_effect t s n event reply s' does = absurd does
 
 effect_by : (t : RuleTable) (s : State) (n : ℕ) (event : Event) (r : Option Refusal) (reply : Reply) (s' : State) → AnswersBy t s n event r reply s' → Effect t s reply s'

@@ -1,5 +1,5 @@
 -- The edges that pass a test are counted at their ends, each once.
-use Rattle.machine_laws.proofs.ChargePrelude.{◌≡◌, ℕ, ◌+◌, ◌<◌, ◌≤◌, Bool, true, cond, ◌&&◌, T, List, [], ◌∷◌, map, filter, count_by, sum_by, nat_eq, nat_lt, min, max, IsTrue, refl, sym, ap, ◌∙◌, subst, inl, inr, arith, is_lt, is_eq, Ordering, is_sorted, below_all, and_parts, and_from, ap₂, linked_back, linked_apart, sum_by-cons, eq_by_cmp_equiv, cases_lt, lt-ltb, ⊎_elim, Network, IsNetwork, pair_cmp, edge, names, linked, neighbours, edge_list, pair_total}
+use Rattle.machine_laws.proofs.ChargePrelude.{◌≡◌, ℕ, ◌+◌, ◌<◌, ◌≤◌, Bool, true, cond, ◌&&◌, T, List, [], ◌∷◌, map, filter, count_by, sum_by, nat_eq, nat_lt, min, max, IsTrue, refl, sym, ap, ◌∙◌, subst, inl, inr, arith, is_sorted, below_all, and_parts, and_from, ap₂, linked_back, linked_apart, sum_by-cons, eq_by_cmp_equiv, cases_lt, lt-ltb, ⊎_elim, Network, IsNetwork, pair_cmp, edge, names, linked, neighbours, edge_list, pair_total}
 use Rattle.std.specs.FinMap as map
 use Rattle.machine_laws.proofs.ListCounts.{IsIn, IsWithoutRepeats, count_cons, sum_add, sum_agree, sum_swap, counted_once, count_agree}
 use Rattle.machine_laws.proofs.Members.{in_names, names_without_repeats, in_edges, edges_contain}
@@ -9,14 +9,9 @@ holds b h = grind arith
 
 -- ---- no edge is listed twice
 
-less_differs : (r : Ordering) → IsTrue (is_lt r) → IsTrue (is_eq r) → ⊥
-less_differs other lt eq = grind arith
-
 below_apart : (k : ℕ × ℕ) (es : List ((ℕ × ℕ) × Unit {0})) → IsTrue (below_all pair_cmp k es) → IsIn k (map (λ e. e.0) es) → ⊥
 below_apart k [] h there = absurd there
-below_apart k (e ∷ es) h (inl same) =
-    less_differs (pair_cmp k k) (subst (λ x. IsTrue (is_lt (pair_cmp k x))) same (and_parts (is_lt (pair_cmp k e.0)) (below_all pair_cmp k es) h).0) ((eq_by_cmp_equiv pair_total).refl k)
-below_apart k (e ∷ es) h (inr there) = below_apart k es (and_parts (is_lt (pair_cmp k e.0)) (below_all pair_cmp k es) h).1 there
+below_apart k (e ∷ es) h there = grind (arith, below_apart k es, and_parts, (eq_by_cmp_equiv pair_total).refl k)
 
 keys_without_repeats : (es : List ((ℕ × ℕ) × Unit {0})) → IsTrue (is_sorted pair_cmp es) → IsWithoutRepeats (map (λ e. e.0) es)
 keys_without_repeats [] h = tt

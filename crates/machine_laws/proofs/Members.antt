@@ -1,34 +1,40 @@
 -- What is in the lists of a network's names and edges.
-use Rattle.machine_laws.proofs.ChargePrelude.{◌≡◌, ℕ, zero, suc, ◌+◌, ◌<◌, ◌≤◌, min, max, Bool, true, cond, filter, refl, List, [], ◌∷◌, length, IsTrue, sym, ap, ◌∙◌, subst, inl, inr, ⊎_elim, arith, range_with_len, list_any, eq_by_cmp, cases_eq, cases_lt, or_cases, or_left, or_right, tells_apart, length-map, eq_by_cmp_equiv, Network, pair_cmp, edge, names, present, edge_list, node_count, edge_count, present_range, pair_total, pair_exact}
+use Rattle.machine_laws.proofs.ChargePrelude.{AllByRecursion, IsDistinct, IsDistinct-from_sorted, IsDistinct-head, IsDistinct-tail, nat_cmp, IsStrictlyIncreasing, sorted_from_strictly_increasing, ◌≡◌, ℕ, zero, suc, ◌+◌, ◌<◌, ◌≤◌, min, max, Bool, true, filter, refl, List, [], ◌∷◌, length, IsTrue, sym, ◌∙◌, subst, inl, inr, arith, range_with_len, list_any, eq_by_cmp, cases_eq, cases_lt, tells_apart, length-map, eq_by_cmp_equiv, Network, pair_cmp, edge, names, present, edge_list, node_count, edge_count, present_range}
 use Rattle.std.specs.FinMap as map
+use Rattle.machine_laws.proofs.LeastAnswers.{names_increasing}
 use Rattle.machine_laws.proofs.ListCounts.{IsIn, IsWithoutRepeats}
 
 in_range : (a n v : ℕ) → a ≤ v → v < a + n → IsIn v (range_with_len a n)
 in_range a zero v low high = absurd (omega arith)
-in_range a (suc n) v low high = ⊎_elim (λ same. inl same) (λ apart. inr (in_range (a + 1) n v (omega arith) (omega arith))) (cases_eq a v)
+in_range a (suc n) v low high = grind (arith, in_range (a + 1) n v, cases_eq a v)
 
 pub range_bounds : (a n v : ℕ) → IsIn v (range_with_len a n) → (a ≤ v) × (v < a + n)
 range_bounds a zero v h = absurd h
-range_bounds a (suc n) v (inl same) = (omega arith, omega arith)
-range_bounds a (suc n) v (inr there) = let rest = range_bounds (a + 1) n v there in (omega arith, omega arith)
+range_bounds a (suc n) v at = grind (arith, range_bounds (a + 1) n v)
 
-range_without_repeats : (a n : ℕ) → IsWithoutRepeats (range_with_len a n)
-range_without_repeats a zero = tt
-range_without_repeats a (suc n) = (λ h. let below = range_bounds (a + 1) n a h in omega arith, range_without_repeats (a + 1) n)
-
--- what a filter keeps passes and was there, each once
+-- what a filter keeps passes and was there
 pub in_kept : (p : ℕ → Bool) (v : ℕ) (xs : List ℕ) → IsTrue (p v) → IsIn v xs → IsIn v (filter p xs)
 in_kept p v [] passes at = absurd at
-in_kept p v (x ∷ xs) passes (inl same) = subst (λ b. IsIn v (cond b (x ∷ filter p xs) (filter p xs))) (sym (ap p same ∙ passes)) (inl same)
-in_kept p v (x ∷ xs) passes (inr there) = grind (arith, in_kept p v xs passes there)
+in_kept p v (x ∷ xs) passes at = grind (arith, in_kept p v xs passes)
 
 kept_in : (p : ℕ → Bool) (v : ℕ) (xs : List ℕ) → IsIn v (filter p xs) → IsTrue (p v) × IsIn v xs
 kept_in p v [] at = absurd at
 kept_in p v (x ∷ xs) at = grind (arith, kept_in p v xs)
 
-kept_without_repeats : (p : ℕ → Bool) (xs : List ℕ) → IsWithoutRepeats xs → IsWithoutRepeats (filter p xs)
-kept_without_repeats p [] once = tt
-kept_without_repeats p (x ∷ xs) once = grind (arith, kept_without_repeats p xs once.1, kept_in)
+-- what all elements have, each in the list has
+pub all_at : {X : Type 0} (P : X → Type 0) (xs : List X) → AllByRecursion P xs → (y : X) → IsIn y xs → P y
+all_at P [] all y at = absurd at
+all_at P (x ∷ xs) all y (inl same) = subst P same all.0
+all_at P (x ∷ xs) all y (inr there) = all_at P xs all.1 y there
+
+single_from_distinct : (ks : List ℕ) → IsDistinct (eq_by_cmp nat_cmp) ks → IsWithoutRepeats ks
+single_from_distinct [] distinct = tt
+single_from_distinct (k ∷ ks) distinct =
+    (λ there. let apart = all_at _ ks (IsDistinct-head (eq_by_cmp nat_cmp) k ks distinct) k there in grind arith, single_from_distinct ks (IsDistinct-tail (eq_by_cmp nat_cmp) k ks distinct))
+
+-- numbers that rise are without repeats
+pub single_from_increasing : (ks : List ℕ) → IsStrictlyIncreasing ks → IsWithoutRepeats ks
+single_from_increasing ks up = single_from_distinct ks (IsDistinct-from_sorted nat_cmp ks (sorted_from_strictly_increasing ks up))
 
 -- the names are the present nodes, each once
 pub in_names : (net : Network) (v : ℕ) → IsTrue (present net v) → IsIn v (names net)
@@ -38,22 +44,18 @@ pub names_present : (net : Network) (v : ℕ) → IsIn v (names net) → IsTrue 
 names_present net v h = (kept_in (present net) v (range_with_len 1 net.size) h).0
 
 pub names_without_repeats : (net : Network) → IsWithoutRepeats (names net)
-names_without_repeats net = kept_without_repeats (present net) (range_with_len 1 net.size) (range_without_repeats 1 net.size)
+names_without_repeats net = single_from_increasing (names net) (names_increasing net)
 
 pub names_len : (net : Network) → length (names net) ≡ node_count net
 names_len net = refl
 
 any_in : (e : ℕ × ℕ) (pairs : List (ℕ × ℕ)) → list_any (eq_by_cmp pair_cmp e) pairs ≡ true → IsIn e pairs
 any_in e [] h = absurd cc
-any_in e (pair ∷ pairs) h =
-    ⊎_elim (λ same. inl (sym (tells_apart pair_exact e pair same))) (λ there. inr (any_in e pairs there)) (or_cases (eq_by_cmp pair_cmp e pair) (list_any (eq_by_cmp pair_cmp e) pairs) h)
+any_in e (pair ∷ pairs) h = grind (arith, any_in e pairs, tells_apart)
 
 in_any : (e : ℕ × ℕ) (pairs : List (ℕ × ℕ)) → IsIn e pairs → list_any (eq_by_cmp pair_cmp e) pairs ≡ true
 in_any e [] h = absurd h
-in_any e (pair ∷ pairs) (inl same) =
-    or_left (eq_by_cmp pair_cmp e pair) (list_any (eq_by_cmp pair_cmp e) pairs) (ap (eq_by_cmp pair_cmp e) same ∙ (eq_by_cmp_equiv pair_total).refl e)
-in_any e (pair ∷ pairs) (inr there) =
-    or_right (eq_by_cmp pair_cmp e pair) (list_any (eq_by_cmp pair_cmp e) pairs) (in_any e pairs there)
+in_any e (pair ∷ pairs) at = grind (arith, in_any e pairs, eq_by_cmp_equiv)
 
 -- the listed edges are those of the set
 pub in_edges : (net : Network) (e : ℕ × ℕ) → IsTrue (map.contains_key net.edges e) → IsIn e (edge_list net)

@@ -1,8 +1,8 @@
 -- What each node does in a step, by its rules, with its registers before and after.
 use Rattle.machine_laws.proofs.ChargePrelude.{◌≡◌, ℕ, ◌+◌, ◌<◌, ◌≤◌, false, List, [], ◌∷◌, length, map, count_by, Any, Option, None, Some, IsSomeAnd, IsTrue, refl, sym, ◌∙◌, subst, inl, inr, arith, AllByRecursion, recursion_from_All, none-some, same_Some, Act, Update, Marry, Seduce, Abandon, Item, Moved, linked, present, names, State, IsState, pointer, flag, married, RuleTable, acts, rule_at, IsTarget, IsMoveOf, IsStep, registers_after, after_moves, present_range, IsMoveIn, moves_keep, find_passes}
 use Rattle.machine_laws.proofs.ListCounts.{IsIn, IsWithoutRepeats}
-use Rattle.machine_laws.proofs.Members.{in_names}
-use Rattle.machine_laws.proofs.WritesOfSteps.{pointer_after_act, flag_by, is_mover_in, NodeAfterMoves, still, moved, moves_leave, in_nodes, node_is_moved, single_from_increasing, moves_counted}
+use Rattle.machine_laws.proofs.Members.{in_names, all_at, single_from_increasing}
+use Rattle.machine_laws.proofs.WritesOfSteps.{pointer_after_act, flag_by, is_mover_in, NodeAfterMoves, still, moved, moves_leave, in_nodes, node_is_moved, moves_counted}
 
 -- only a present node has an enabled rule, and the targets that the rule allows are neighbours
 pub record IsInside (t : RuleTable) : Type 0 where
@@ -34,11 +34,6 @@ record IsRuled (t : RuleTable) (s : State) (m : Moved) : Type 0 where
 ruled_from : (t : RuleTable) (s : State) (items : List Item) (m : Moved) → Any (λ item. IsMoveOf t s item m) items → IsRuled t s m
 ruled_from t s items m (k, item, below, at, is) = grind (arith, rule_at)
 
-all_ruled : (t : RuleTable) (s : State) (items : List Item) (moves : List Moved) → AllByRecursion (λ m. Any (λ item. IsMoveOf t s item m) items) moves → (m : Moved) → IsIn m moves → IsRuled t s m
-all_ruled t s items [] all m h = absurd h
-all_ruled t s items (x ∷ moves) all m (inl same) = subst (IsRuled t s) same (ruled_from t s items x all.0)
-all_ruled t s items (x ∷ moves) all m (inr there) = all_ruled t s items moves all.1 m there
-
 some_and : (o : Option ℕ) (P : ℕ → Type 0) → IsSomeAnd o P → (w : ℕ) × (o ≡ Some w) × P w
 some_and None P h = absurd h
 some_and (Some w) P h = (w, refl, h)
@@ -62,8 +57,7 @@ all_from_in P (m ∷ moves) h = (h m (inl refl), all_from_in P moves (λ x there
 
 node_present : (s : State) (moves : List Moved) → ((m : Moved) → IsIn m moves → IsTrue (present s.network m.node)) → (v : ℕ) → IsIn v (map (λ m. m.node) moves) → IsTrue (present s.network v)
 node_present s [] has v h = absurd h
-node_present s (m ∷ moves) has v (inl same) = subst (λ x. IsTrue (present s.network x)) same (has m (inl refl))
-node_present s (m ∷ moves) has v (inr there) = node_present s moves (λ x at. has x (inr at)) v there
+node_present s (m ∷ moves) has v at = grind (arith, node_present s moves (λ x there. has x (inr there)), has m (inl refl))
 
 done_from : (t : RuleTable) → IsInside t → (s : State) → IsState s → (moves : List Moved) → IsWithoutRepeats (map (λ m. m.node) moves) → ((m : Moved) → IsIn m moves → IsRuled t s m) → IsDone t s (after_moves s moves) moves
 done_from t inside s good moves single ruled = record {
@@ -94,5 +88,5 @@ pub step_done : (t : RuleTable) → IsInside t → (s : State) → IsState s →
 step_done t inside s good items moves s' step =
     let each = recursion_from_All (λ m. Any (λ item. IsMoveOf t s item m) items) moves step.each in
     subst (λ x. IsDone t s x moves) (sym step.after) (
-    done_from t inside s good moves (single_from_increasing (map (λ m. m.node) moves) step.ascending) (all_ruled t s items moves each)
+    done_from t inside s good moves (single_from_increasing (map (λ m. m.node) moves) step.ascending) (λ m there. ruled_from t s items m (all_at (λ m. Any (λ item. IsMoveOf t s item m) items) moves each m there))
     )

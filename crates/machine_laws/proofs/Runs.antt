@@ -1,5 +1,5 @@
 -- Every run ends in a state.
-use Rattle.machine_laws.proofs.Prelude.{◌≡◌, ℕ, List, [], ◌∷◌, ◌++◌, Any, Option, None, Some, IsTrue, refl, sym, subst, All-weaker, recursion_from_All, Act, Item, Moved, Event, Link, Unlink, Point, Flag, Step, Show, Enabled, Matching, Status, Join, Leave, Refusal, Reply, Accepted, Moves, Shown, EnabledAre, Pairs, Counts, present, State, IsState, RuleTable, IsTarget, IsMoveOf, IsStep, refusal_of, Does, AnswersBy, Answers, spent_after, Entry, Moment, Run, IsMoveIn, arith}
+use Rattle.machine_laws.proofs.Prelude.{◌≡◌, ℕ, ◌⊎◌, inl, inr, ⊎_elim, accepted_state, List, [], ◌∷◌, ◌++◌, Any, Option, None, Some, IsTrue, refl, sym, subst, All-weaker, recursion_from_All, Act, Item, Moved, Event, Step, Refusal, Reply, Moves, present, State, IsState, RuleTable, IsTarget, IsMoveOf, IsStep, refusal_of, Does, AnswersBy, Answers, spent_after, Entry, Moment, Run, IsMoveIn, arith}
 use Rattle.machine_laws.proofs.StatePreservation.{moves_keep}
 use Rattle.machine_laws.proofs.LeastMoves.{IsTable}
 use Rattle.machine_laws.proofs.AcceptedEvents.{IsStepChoice, choice_from_none, taken_at, accepted_keeps}
@@ -22,19 +22,17 @@ any_step_keeps t table s good items choice moves s' step =
     let all = All-weaker (λ m. Any (λ item. IsMoveOf t s item m) items) (IsMoveIn s.network) (asked_is_move_in t table s items choice) moves step.each in
     subst IsState (sym step.after) (moves_keep s moves good (recursion_from_All (IsMoveIn s.network) moves all))
 
+-- a reply leaves the accepted state, or the state after a step
+does_state : (t : RuleTable) (s : State) (n : ℕ) (event : Event) (reply : Reply) (s' : State) → Does t s n event reply s' → (s' ≡ accepted_state t s event) ⊎ ((items : List Item) × (moves : List Moved) × (event ≡ Step items) × IsStep t s items moves s')
+does_state t s n (Step items) (Moves moves) s' does = inr (items, moves, refl, does)
+does_state t s n event reply s' does = inl (grind arith)
+
 does_keeps : (t : RuleTable) → IsTable t → (s : State) → IsState s → (n : ℕ) (event : Event) (reply : Reply) (s' : State) → refusal_of t s event ≡ None → Does t s n event reply s' → IsState s'
-does_keeps t table s good n (Link a b) Accepted s' e does = subst IsState (sym does) (accepted_keeps t table s good (Link a b) e)
-does_keeps t table s good n (Unlink a b) Accepted s' e does = subst IsState (sym does) (accepted_keeps t table s good (Unlink a b) e)
-does_keeps t table s good n (Point v target) Accepted s' e does = subst IsState (sym does) (accepted_keeps t table s good (Point v target) e)
-does_keeps t table s good n (Flag v value) Accepted s' e does = subst IsState (sym does) (accepted_keeps t table s good (Flag v value) e)
-does_keeps t table s good n (Join v) Accepted s' e does = subst IsState (sym does) (accepted_keeps t table s good (Join v) e)
-does_keeps t table s good n (Leave v) Accepted s' e does = subst IsState (sym does) (accepted_keeps t table s good (Leave v) e)
-does_keeps t table s good n (Step items) (Moves moves) s' e does = any_step_keeps t table s good items (choice_from_none t s items e) moves s' does
-does_keeps t table s good n (Show v) (Shown target) s' e does = subst IsState (sym does.1) good
-does_keeps t table s good n Enabled (EnabledAre nodes) s' e does = subst IsState (sym does.1) good
-does_keeps t table s good n Matching (Pairs pairs) s' e does = subst IsState (sym does.1) good
-does_keeps t table s good n Status (Counts counts) s' e does = subst IsState (sym does.1) good
-does_keeps t table s good n event reply s' e does = absurd does
+does_keeps t table s good n event reply s' e does =
+    ⊎_elim
+    (λ same. subst IsState (sym same) (accepted_keeps t table s good event e))
+    (λ (items, moves, is, step). any_step_keeps t table s good items (choice_from_none t s items (subst (λ x. refusal_of t s x ≡ None) is e)) moves s' step)
+    (does_state t s n event reply s' does)
 
 answers_by_keep : (t : RuleTable) → IsTable t → (s : State) → IsState s → (n : ℕ) (event : Event) (r : Option Refusal) (reply : Reply) (s' : State) → refusal_of t s event ≡ r → AnswersBy t s n event r reply s' → IsState s'
 answers_by_keep t table s good n event x reply s' e does = grind (arith, does_keeps)

@@ -1,5 +1,5 @@
 -- If flags are not used, none is ever set.
-use Rattle.machine_laws.proofs.Prelude.{◌≡◌, ◌≢◌, ℕ, ◌+◌, false, List, [], ◌∷◌, fold, set, get_or, Option, None, Any, refl, ap, ◌∙◌, AllByRecursion, All-weaker, recursion_from_All, true≢false, cases_Bool, Act, Update, Item, Moved, Event, Link, Unlink, Point, Flag, Step, Show, Enabled, Matching, Status, Join, Leave, Refusal, Reply, Accepted, Moves, Shown, EnabledAre, Pairs, Counts, State, Registers, flag, flag_of, opening_with, RuleTable, IsMoveOf, written, after_move, refusal_of, Does, AnswersBy, spent_after, Entry, Moment, Run, without_pointer, arith}
+use Rattle.machine_laws.proofs.Prelude.{◌≡◌, ◌≢◌, ℕ, ◌+◌, false, List, [], ◌∷◌, fold, get_or, Option, None, Any, refl, ap, ◌∙◌, AllByRecursion, All-weaker, recursion_from_All, true≢false, cases_Bool, Act, Update, Item, Moved, Event, Step, Refusal, Reply, Moves, State, Registers, flag, flag_of, opening_with, RuleTable, IsMoveOf, IsStep, written, after_move, refusal_of, Does, AnswersBy, spent_after, Entry, Moment, Run, arith}
 use Rattle.machine_laws.proofs.LeastMoves.{find_passes}
 use Rattle.machine_laws.proofs.Writes.{without_pointer_flags}
 use Rattle.machine_laws.proofs.StatePreservation.{flag_left, blank_flag}
@@ -26,23 +26,14 @@ moves_flags before r (m ∷ moves) all = moves_flags before (after_move before r
 no_update : (t : RuleTable) → NeverUpdates t → (s : State) (items : List Item) (m : Moved) → Any (λ item. IsMoveOf t s item m) items → m.act ≢ Update
 no_update t never s items m (k, item, below, at, is) same = grind (arith, true≢false, find_passes)
 
+step_unflagged : (t : RuleTable) → NeverUpdates t → (s : State) (items : List Item) (moves : List Moved) (s' : State) → IsStep t s items moves s' → s'.registers.flags ≡ s.registers.flags
+step_unflagged t never s items moves s' step =
+    ap (λ (u : State). u.registers.flags) step.after
+    ∙ moves_flags s s.registers moves (recursion_from_All (λ m. m.act ≢ Update) moves (All-weaker (λ m. Any (λ item. IsMoveOf t s item m) items) (λ m. m.act ≢ Update) (no_update t never s items) moves step.each))
+
 does_unflagged : (t : RuleTable) → t.flags ≡ false → NeverUpdates t → (s : State) → IsUnflagged s.registers → (n : ℕ) (event : Event) (reply : Reply) (s' : State) → refusal_of t s event ≡ None → Does t s n event reply s' → IsUnflagged s'.registers
-does_unflagged t unused never s down n (Link a b) Accepted s' e does = λ v. ap (λ (u : State). flag u v) does ∙ down v
-does_unflagged t unused never s down n (Unlink a b) Accepted s' e does =
-    λ v. ap (λ (u : State). flag u v) does ∙ ap (λ l. get_or l v false) (without_pointer_flags (without_pointer s.registers a b) b a ∙ without_pointer_flags s.registers a b) ∙ down v
-does_unflagged t unused never s down n (Point v target) Accepted s' e does = λ w. ap (λ (u : State). flag u w) does ∙ down w
-does_unflagged t unused never s down n (Flag v value) Accepted s' e does = grind (arith, true≢false)
-does_unflagged t unused never s down n (Join v) Accepted s' e does = λ w. ap (λ (u : State). flag u w) does ∙ down w
-does_unflagged t unused never s down n (Leave v) Accepted s' e does = grind (arith, set, true≢false, flag_left, cases_Bool)
-does_unflagged t unused never s down n (Step items) (Moves moves) s' e does =
-    λ v. ap (λ (u : State). flag u v) does.after
-    ∙ ap (λ l. get_or l v false) (moves_flags s s.registers moves (recursion_from_All (λ m. m.act ≢ Update) moves (All-weaker (λ m. Any (λ item. IsMoveOf t s item m) items) (λ m. m.act ≢ Update) (no_update t never s items) moves does.each)))
-    ∙ down v
-does_unflagged t unused never s down n (Show v) (Shown target) s' e does = λ w. ap (λ (u : State). flag u w) does.1 ∙ down w
-does_unflagged t unused never s down n Enabled (EnabledAre nodes) s' e does = λ w. ap (λ (u : State). flag u w) does.1 ∙ down w
-does_unflagged t unused never s down n Matching (Pairs pairs) s' e does = λ w. ap (λ (u : State). flag u w) does.1 ∙ down w
-does_unflagged t unused never s down n Status (Counts counts) s' e does = λ w. ap (λ (u : State). flag u w) does.1 ∙ down w
-does_unflagged t unused never s down n event reply s' e does = absurd does
+does_unflagged t unused never s down n (Step items) (Moves moves) s' e does = λ v. ap (λ l. get_or l v false) (step_unflagged t never s items moves s' does) ∙ down v
+does_unflagged t unused never s down n event reply s' e does = λ v. grind (arith, true≢false, flag_left, cases_Bool, without_pointer_flags)
 
 by_refusal : (t : RuleTable) → t.flags ≡ false → NeverUpdates t → (s : State) → IsUnflagged s.registers → (n : ℕ) (event : Event) (r : Option Refusal) (reply : Reply) (s' : State) → refusal_of t s event ≡ r → AnswersBy t s n event r reply s' → IsUnflagged s'.registers
 by_refusal t unused never s down n event x reply s' e does = grind (arith, does_unflagged)

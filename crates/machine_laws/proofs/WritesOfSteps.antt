@@ -1,5 +1,5 @@
 -- The registers of each node after the moves of a step.
-use Rattle.machine_laws.proofs.ChargePrelude.{◌≡◌, ℕ, ◌<◌, ◌≤◌, Bool, true, false, List, [], ◌∷◌, length, map, fold, count_by, Option, None, IsTrue, nat_eq, refl, sym, ap, ◌∙◌, subst, inl, inr, ◌⊎◌, arith, nat_cmp_total, AllByRecursion, IsDistinct, list_any, IsStrictlyIncreasing, nat_cmp, eq_by_cmp, cases_eq, or_from, or_left, or_right, eq-eqb, ne_eqb, true≢false, eq_by_cmp_equiv, length-map, length-set, IsDistinct-from_sorted, IsDistinct-head, IsDistinct-tail, sorted_from_strictly_increasing, Act, Update, Abandon, Moved, State, Registers, pointer_of, flag_of, married, written, after_move, pointer-with_pointer_other, pointer-with_pointer_same, flag-with_flag_other, flag-with_flag_same}
+use Rattle.machine_laws.proofs.ChargePrelude.{◌≡◌, ℕ, ◌<◌, ◌≤◌, Bool, true, false, List, [], ◌∷◌, length, map, fold, count_by, Option, None, IsTrue, nat_eq, refl, sym, ap, ◌∙◌, subst, inl, inr, ◌⊎◌, arith, AllByRecursion, list_any, cases_eq, or_from, ne_eqb, length-map, length-set, Act, Update, Abandon, Moved, State, Registers, pointer_of, flag_of, married, written, after_move, pointer-with_pointer_other, pointer-with_pointer_same, flag-with_flag_other, flag-with_flag_same}
 use Rattle.machine_laws.proofs.ListCounts.{IsIn, IsWithoutRepeats, count_within, count_all}
 
 -- the pointer of a node after its move, and the flag after its move
@@ -12,26 +12,14 @@ abbrev pub flag_by : Act → Bool → Bool → Bool
 flag_by Update married old = married
 flag_by act married old = old
 
-pointer_here : (before : State) (r : Registers) (v : ℕ) (act : Act) (target : Option ℕ) → v < length r.pointers → pointer_of (written before r v act target) v ≡ pointer_after_act act target (pointer_of r v)
-pointer_here before r v act target below = grind (arith, pointer-with_pointer_same)
+write_here : (before : State) (r : Registers) (v : ℕ) (act : Act) (target : Option ℕ) → v < length r.pointers → v < length r.flags → (pointer_of (written before r v act target) v ≡ pointer_after_act act target (pointer_of r v)) × (flag_of (written before r v act target) v ≡ flag_by act (married before v) (flag_of r v))
+write_here before r v act target below within = grind (arith, pointer-with_pointer_same, flag-with_flag_same)
 
-flag_here : (before : State) (r : Registers) (v : ℕ) (act : Act) (target : Option ℕ) → v < length r.flags → flag_of (written before r v act target) v ≡ flag_by act (married before v) (flag_of r v)
-flag_here before r v Update target below = flag-with_flag_same r v (married before v) below
-flag_here before r v act target below = refl
+write_elsewhere : (before : State) (r : Registers) (v : ℕ) (act : Act) (target : Option ℕ) (w : ℕ) → (w ≡ v → ⊥) → (pointer_of (written before r v act target) w ≡ pointer_of r w) × (flag_of (written before r v act target) w ≡ flag_of r w)
+write_elsewhere before r v act target w apart = grind (arith, pointer-with_pointer_other, flag-with_flag_other)
 
-pointer_elsewhere : (before : State) (r : Registers) (v : ℕ) (act : Act) (target : Option ℕ) (w : ℕ) → (w ≡ v → ⊥) → pointer_of (written before r v act target) w ≡ pointer_of r w
-pointer_elsewhere before r v act target w apart = grind (arith, pointer-with_pointer_other)
-
-flag_elsewhere : (before : State) (r : Registers) (v : ℕ) (act : Act) (target : Option ℕ) (w : ℕ) → (w ≡ v → ⊥) → flag_of (written before r v act target) w ≡ flag_of r w
-flag_elsewhere before r v Update target w apart = flag-with_flag_other r v (married before v) w apart
-flag_elsewhere before r v act target w apart = refl
-
-pointers_kept : (before : State) (r : Registers) (v : ℕ) (act : Act) (target : Option ℕ) → length (written before r v act target).pointers ≡ length r.pointers
-pointers_kept before r v act target = grind (arith, length-set)
-
-flags_kept : (before : State) (r : Registers) (v : ℕ) (act : Act) (target : Option ℕ) → length (written before r v act target).flags ≡ length r.flags
-flags_kept before r v Update target = length-set r.flags v (married before v)
-flags_kept before r v act target = refl
+write_keeps : (before : State) (r : Registers) (v : ℕ) (act : Act) (target : Option ℕ) → (length (written before r v act target).pointers ≡ length r.pointers) × (length (written before r v act target).flags ≡ length r.flags)
+write_keeps before r v act target = grind (arith, length-set)
 
 -- whether one of the moves is v's
 abbrev pub is_mover_in : List Moved → ℕ → Bool
@@ -44,15 +32,14 @@ pub data NodeAfterMoves (before : State) (r r' : Registers) (moves : List Moved)
 
 pub in_nodes : (moves : List Moved) (m : Moved) → IsIn m moves → IsIn m.node (map (λ m. m.node) moves)
 in_nodes [] m h = absurd h
-in_nodes (x ∷ moves) m (inl same) = inl (ap (λ m. m.node) same)
-in_nodes (x ∷ moves) m (inr there) = inr (in_nodes moves m there)
+in_nodes (x ∷ moves) m at = grind (arith, in_nodes moves m)
 
 -- One move after another: each is of another node, so a later one leaves what an earlier one wrote.
 pub moves_leave : (before : State) (r : Registers) (moves : List Moved) (n v : ℕ) → length r.pointers ≡ n → length r.flags ≡ n → AllByRecursion (λ m. m.node < n) moves → IsWithoutRepeats (map (λ m. m.node) moves) → NodeAfterMoves before r (fold (after_move before) r moves) moves v
 moves_leave before r [] n v pointers flags within single = still refl refl refl
 moves_leave before r (m ∷ moves) n v pointers flags within single =
-    join (cases_eq m.node v)
-    (moves_leave before first moves n v (pointers_kept before r m.node m.act m.target ∙ pointers) (flags_kept before r m.node m.act m.target ∙ flags) within.1 single.1)
+    let kept = write_keeps before r m.node m.act m.target in
+    join (cases_eq m.node v) (moves_leave before first moves n v (kept.0 ∙ pointers) (kept.1 ∙ flags) within.1 single.1)
   where
     first : Registers
     first = after_move before r m
@@ -62,39 +49,23 @@ moves_leave before r (m ∷ moves) n v pointers flags within single =
 
     join : (m.node ≡ v) ⊎ (m.node ≡ v → ⊥) → NodeAfterMoves before first last moves v → NodeAfterMoves before r last (m ∷ moves) v
     join (inl same) (still none e f) =
+        let here = write_here before r m.node m.act m.target (omega (arith, within.0, pointers)) (omega (arith, within.0, flags)) in
         moved m (inl refl) same
-        (e ∙ subst (λ x. pointer_of first x ≡ pointer_after_act m.act m.target (pointer_of r x)) same (pointer_here before r m.node m.act m.target (omega (arith, within.0, pointers))))
-        (f ∙ subst (λ x. flag_of first x ≡ flag_by m.act (married before x) (flag_of r x)) same (flag_here before r m.node m.act m.target (omega (arith, within.0, flags))))
+        (e ∙ subst (λ x. pointer_of first x ≡ pointer_after_act m.act m.target (pointer_of r x)) same here.0)
+        (f ∙ subst (λ x. flag_of first x ≡ flag_by m.act (married before x) (flag_of r x)) same here.1)
     join (inl same) (moved x there at e f) = absurd (single.0 (subst (λ y. IsIn y (map (λ m. m.node) moves)) (at ∙ sym same) (in_nodes moves x there)))
     join (inr apart) (still none e f) =
-        still (or_from (nat_eq m.node v) (is_mover_in moves v) (ne_eqb m.node v apart) none)
-        (e ∙ pointer_elsewhere before r m.node m.act m.target v (λ k. apart (sym k)))
-        (f ∙ flag_elsewhere before r m.node m.act m.target v (λ k. apart (sym k)))
+        let other = write_elsewhere before r m.node m.act m.target v (λ k. apart (sym k)) in
+        still (or_from (nat_eq m.node v) (is_mover_in moves v) (ne_eqb m.node v apart) none) (e ∙ other.0) (f ∙ other.1)
     join (inr apart) (moved x there at e f) =
-        moved x (inr there) at
-        (e ∙ ap (pointer_after_act x.act x.target) (pointer_elsewhere before r m.node m.act m.target v (λ k. apart (sym k))))
-        (f ∙ ap (flag_by x.act (married before v)) (flag_elsewhere before r m.node m.act m.target v (λ k. apart (sym k))))
+        let other = write_elsewhere before r m.node m.act m.target v (λ k. apart (sym k)) in
+        moved x (inr there) at (e ∙ ap (pointer_after_act x.act x.target) other.0) (f ∙ ap (flag_by x.act (married before v)) other.1)
 
 -- ---- how many moves there are
 
-single_from_distinct : (ks : List ℕ) → IsDistinct (eq_by_cmp nat_cmp) ks → IsWithoutRepeats ks
-single_from_distinct [] distinct = tt
-single_from_distinct (k ∷ ks) distinct =
-    (λ there. true≢false (sym ((eq_by_cmp_equiv nat_cmp_total).refl k) ∙ differs ks k (IsDistinct-head (eq_by_cmp nat_cmp) k ks distinct) there), single_from_distinct ks (IsDistinct-tail (eq_by_cmp nat_cmp) k ks distinct))
-  where
-    differs : (xs : List ℕ) (y : ℕ) → AllByRecursion (λ x. eq_by_cmp nat_cmp k x ≡ false) xs → IsIn y xs → eq_by_cmp nat_cmp k y ≡ false
-    differs [] y all h = absurd h
-    differs (x ∷ xs) y all (inl same) = subst (λ z. eq_by_cmp nat_cmp k z ≡ false) same all.0
-    differs (x ∷ xs) y all (inr there) = differs xs y all.1 there
-
--- names that rise are without repeats
-pub single_from_increasing : (ks : List ℕ) → IsStrictlyIncreasing ks → IsWithoutRepeats ks
-single_from_increasing ks up = single_from_distinct ks (IsDistinct-from_sorted nat_cmp ks (sorted_from_strictly_increasing ks up))
-
 pub node_is_moved : (moves : List Moved) (v : ℕ) → IsIn v (map (λ m. m.node) moves) → IsTrue (is_mover_in moves v)
 node_is_moved [] v h = absurd h
-node_is_moved (m ∷ moves) v (inl same) = or_left (nat_eq m.node v) (is_mover_in moves v) (eq-eqb m.node v same)
-node_is_moved (m ∷ moves) v (inr there) = or_right (nat_eq m.node v) (is_mover_in moves v) (node_is_moved moves v there)
+node_is_moved (m ∷ moves) v at = grind (arith, node_is_moved moves v)
 
 -- there are at most as many moves as names that move
 pub moves_counted : (moves : List Moved) (xs : List ℕ) → IsWithoutRepeats (map (λ m. m.node) moves) → ((v : ℕ) → IsIn v (map (λ m. m.node) moves) → IsIn v xs) → length moves ≤ count_by (is_mover_in moves) xs
