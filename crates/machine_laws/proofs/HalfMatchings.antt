@@ -1,5 +1,5 @@
 -- A maximal matching has at least half as many edges as any other matching.
-use Rattle.machine_laws.proofs.ChargePrelude.{◌≡◌, ℕ, ◌*◌, ◌≤◌, List, [], ◌∷◌, length, Bool, All, Any, refl, sym, ap, subst, inl, inr, ⊎_elim, ◌⊎◌, arith, All-head, All-tail, Network, State, IsState, IsStable, mutual_pairs}
+use Rattle.machine_laws.proofs.ChargePrelude.{◌≡◌, ℕ, ◌*◌, ◌≤◌, List, [], ◌∷◌, length, Bool, All, Any, refl, inl, inr, ⊎_elim, ◌⊎◌, arith, All-head, All-tail, Network, State, IsState, IsStable, mutual_pairs}
 use Rattle.std.proofs.Common.{Contains}
 use Rattle.rule_machine.specs.Stable.{IsMaximalMatching, ShareAnEnd}
 use Rattle.machine_laws.specs.HalfMatchings.{AreApart, IsMatching}
@@ -39,20 +39,11 @@ ends_len (e ∷ edges) = let rest = ends_len edges in omega (arith, rest)
 
 ends_have : (edges : List (ℕ × ℕ)) (e : ℕ × ℕ) → Contains edges e → IsIn e.0 (ends edges) × IsIn e.1 (ends edges)
 ends_have [] e c = absurd (contains_empty e c)
-ends_have (f ∷ edges) e c =
-    ⊎_elim
-    (λ same. (inl (ap (λ (p : ℕ × ℕ). p.0) same), inr (inl (ap (λ (p : ℕ × ℕ). p.1) same))))
-    (λ there. let rest = ends_have edges e there in (inr (inr rest.0), inr (inr rest.1)))
-    (contains_cases f e edges c)
+ends_have (f ∷ edges) e c = grind (arith, ends_have edges e, contains_cases f e edges)
 
 -- an edge that shares an end with one of the list has it among the ends
 shares_touches : (edges : List (ℕ × ℕ)) (e : ℕ × ℕ) → Any (ShareAnEnd e) edges → Touches (ends edges) e
-shares_touches edges e (k, f, below, at, shared) =
-    let have = ends_have edges f (k, below, at) in
-    ⊎_elim (λ a. inl (moved a have.0)) (⊎_elim (λ a. inl (moved a have.1)) (⊎_elim (λ a. inr (moved a have.0)) (λ a. inr (moved a have.1)))) shared
-  where
-    moved : {v w : ℕ} → v ≡ w → IsIn w (ends edges) → IsIn v (ends edges)
-    moved same there = subst (λ x. IsIn x (ends edges)) (sym same) there
+shares_touches edges e (k, f, below, at, shared) = let have = ends_have edges f (k, below, at) in grind arith
 
 -- No matching has more than twice the edges of a maximal matching: each edge of the first has an end of the
 -- second for itself.

@@ -1,7 +1,7 @@
 -- The answer with the least targets is one that the machine may give.
-use Rattle.machine_laws.proofs.Prelude.{◌≡◌, ◌≢◌, ℕ, zero, suc, ◌+◌, ◌<◌, ◌≤◌, Bool, true, false, cond, List, [], ◌∷◌, length, map, filter, All, Any, Contains, Option, None, Some, IsSome, IsSomeAnd, IsTrue, is_some, nat_eq, refl, sym, ap, ◌∙◌, subst, ⊎_elim, find, filter_map, option_and_then, get_or, arith, lt-ltb, cons_option, range_with_len, IsStrictlyIncreasing, cases_Bool, cases_eq, cond-true, cond-false, true≢false, and_from, length-map, All-from_recursion, All-weaker, All-map, length-range_with_len, get_or-range_with_len, IsStrictlyIncreasing-filter, none-some, same_Some, cond_some, option_and_then_some, Act, Item, Moved, Event, Refusal, Network, names, present, State, IsState, RuleTable, rule_at, IsAllowedTarget, IsTarget, IsMoveOf, IsStep, after_moves, refusal_of, Does, AnswersBy, Answers, outcome_of, move_in, least_moves, accepted_reply, accepted_state, reply_by, state_by, reply_of, state_after, target_by, takes_target}
+use Rattle.machine_laws.proofs.Prelude.{◌≡◌, ◌≢◌, ℕ, ◌<◌, Bool, true, false, cond, List, [], ◌∷◌, length, map, filter, All, Any, Contains, Option, None, Some, IsSome, IsSomeAnd, IsTrue, is_some, nat_eq, refl, sym, ap, ◌∙◌, subst, find, filter_map, option_and_then, get_or, arith, lt-ltb, cons_option, range_with_len, IsStrictlyIncreasing, cases_Bool, cond-true, cond-false, true≢false, and_from, length-map, All-from_recursion, All-weaker, All-map, length-range_with_len, get_or-range_with_len, IsStrictlyIncreasing-filter, none-some, same_Some, cond_some, option_and_then_some, Act, Item, Moved, Event, Refusal, Network, names, present, State, IsState, RuleTable, rule_at, IsAllowedTarget, IsTarget, IsMoveOf, IsStep, after_moves, refusal_of, Does, AnswersBy, Answers, outcome_of, move_in, least_moves, accepted_reply, accepted_state, reply_by, state_by, reply_of, state_after, target_by, takes_target}
 use Rattle.std.proofs.Common.{eqb-true}
-use Rattle.machine_laws.proofs.Neighbours.{present_range}
+pub use Rattle.machine_laws.proofs.Pairs.{filter_map_contains, names_contains}
 use Rattle.machine_laws.proofs.Pairs.{contains_first, contains_rest}
 use Rattle.machine_laws.proofs.LeastMoves.{IsTable, Makes, find_passes, filter_map_all, makes_from_outcome, target_allowed, move_at}
 use Rattle.machine_laws.proofs.AcceptedEvents.{IsStepChoice, choice_from_none, taken_at}
@@ -39,26 +39,10 @@ makes_move_of t table s good item m makes = record {
 
 -- ---- lists
 
-contains_tail : {X : Type 0} (y : X) (xs : List X) (x : X) → Contains xs x → Contains (y ∷ xs) x
-contains_tail y xs x at = (suc at.0, omega (arith, at.1), at.2)
-
 -- what `find` finds is an element
 pub find_contains : {X : Type 0} (p : X → Bool) (xs : List X) (x : X) → find p xs ≡ Some x → Contains xs x
 find_contains p [] x e = absurd (none-some x e)
-find_contains p (y ∷ ys) x e = grind (arith, find_contains p ys x, same_Some, cond-true, contains_tail, cond-false, cases_Bool)
-
-cons_option_contains : {Y : Type 0} (o : Option Y) (ys : List Y) (y : Y) → Contains ys y → Contains (cons_option o ys) y
-cons_option_contains None ys y at = at
-cons_option_contains (Some z) ys y at = contains_tail z ys y at
-
-filter_map_place : {X Y : Type 0} (h : X → Option Y) (xs : List X) (x : X) (y : Y) (k : ℕ) → k < length xs → get_or xs k x ≡ x → h x ≡ Some y → Contains (filter_map h xs) y
-filter_map_place h [] x y k below at e = absurd (omega arith)
-filter_map_place h (z ∷ xs) x y zero below at e = subst (λ o. Contains (cons_option o (filter_map h xs)) y) (sym (ap h at ∙ e)) (0, omega arith, refl)
-filter_map_place h (z ∷ xs) x y (suc k) below at e = cons_option_contains (h z) (filter_map h xs) y (filter_map_place h xs x y k (omega (arith, below)) at e)
-
--- what h gives of an element is among what it gives
-pub filter_map_contains : {X Y : Type 0} (h : X → Option Y) (xs : List X) (x : X) (y : Y) → Contains xs x → h x ≡ Some y → Contains (filter_map h xs) y
-filter_map_contains h xs x y at e = filter_map_place h xs x y at.0 at.1 at.2 e
+find_contains p (y ∷ ys) x e = grind (arith, find_contains p ys x, same_Some, cond-true, contains_first, contains_rest, cond-false, cases_Bool)
 
 cons_option_nodes : (o : Option Moved) (v : ℕ) (ms : List Moved) (vs : List ℕ) → ((m : Moved) → o ≡ Some m → m.node ≡ v) → map (λ m. m.node) ms ≡ vs → map (λ m. m.node) (cons_option o ms) ≡ cond (is_some o) (v ∷ vs) vs
 cons_option_nodes o v ms vs same e = grind arith
@@ -74,24 +58,6 @@ range_increasing a n k below = grind (arith, length-range_with_len, get_or-range
 
 pub names_increasing : (net : Network) → IsStrictlyIncreasing (names net)
 names_increasing net = IsStrictlyIncreasing-filter (present net) (range_with_len 1 net.size) (range_increasing 1 net.size)
-
--- a number of a range that passes is among those that a filter keeps
-filter_has : (p : ℕ → Bool) (a n v : ℕ) → a ≤ v → v < a + n → IsTrue (p v) → Contains (filter p (range_with_len a n)) v
-filter_has p a zero v low high passes = absurd (omega arith)
-filter_has p a (suc n) v low high passes =
-    ⊎_elim
-    (λ same. subst (λ b. Contains (cond b (a ∷ filter p (range_with_len (a + 1) n)) (filter p (range_with_len (a + 1) n))) v) (sym (ap p same ∙ passes)) (subst (λ x. Contains (a ∷ filter p (range_with_len (a + 1) n)) x) same (contains_first a _)))
-    (λ apart. kept (p a) (filter_has p (a + 1) n v (omega arith) (omega arith) passes))
-    (cases_eq a v)
-  where
-    kept : (b : Bool) → Contains (filter p (range_with_len (a + 1) n)) v → Contains (cond b (a ∷ filter p (range_with_len (a + 1) n)) (filter p (range_with_len (a + 1) n))) v
-    kept true c = contains_rest a v _ c
-    kept false c = c
-
--- a node that is present is among the names
-pub names_contains : (net : Network) (v : ℕ) → IsTrue (present net v) → Contains (names net) v
-names_contains net v has =
-    let bounds = present_range net v has in filter_has (present net) 1 net.size v bounds.0 (omega arith) has
 
 any_of_one : {X : Type 0} (P : X → Type 0) (x : X) → Any P (x ∷ []) → P x
 any_of_one x y z = grind arith

@@ -1,5 +1,5 @@
 -- The mutual pairs of a state are a matching; of a stable one a maximal matching, and the other way round.
-use Rattle.machine_laws.proofs.Prelude.{◌≡◌, ℕ, min, max, Bool, None, Some, IfSome, IsTrue, All, Any, Contains, sym, ap, ◌∙◌, inl, inr, ⊎_elim, arith, Contains-get_or, linked, present, State, IsState, pointer, flag, married, IsStable, IsMaximalMatching, ShareAnEnd, mutual_pairs}
+use Rattle.machine_laws.proofs.Prelude.{◌≡◌, ℕ, ◌⊎◌, min, max, Bool, Option, None, Some, IfSome, IsTrue, All, Any, Contains, sym, ◌∙◌, arith, Contains-get_or, linked, present, State, IsState, pointer, flag, married, IsStable, IsMaximalMatching, ShareAnEnd, mutual_pairs}
 use Rattle.std.specs.FinMap as map
 use Rattle.machine_laws.proofs.Neighbours.{option_cases, linked_pair}
 use Rattle.machine_laws.proofs.Pointers.{pointer_linked}
@@ -21,30 +21,15 @@ same_pair s e f pe pf shared = grind arith
 pub pairs_apart : (s : State) (e f : ℕ × ℕ) → Contains (mutual_pairs s) e → Contains (mutual_pairs s) f → ShareAnEnd e f → e ≡ f
 pairs_apart s e f in_e in_f shared = same_pair s e f (pair_from s e in_e) (pair_from s f in_f) shared
 
--- Of an edge's two ends one points somewhere, and is answered: that pair shares the end with the edge.
-touched : (uses_flags : Bool) (s : State) → IsState s → IsStable uses_flags s → (e : ℕ × ℕ) → IsTrue (map.contains_key s.network.edges e) → Any (ShareAnEnd e) (mutual_pairs s)
-touched uses_flags s is_state stable e h =
-    ⊎_elim
-    (
-    λ null. ⊎_elim
-    (λ other. absurd (stable.covered e.0 e.1 edge null other))
-    (
-    λ some. let found = pair_at s e.1 some.0 is_state some.1 (answer e.1 some.0 some.1) in
-    (found.0, found.1, found.2, found.3, ⊎_elim (λ p. inr (inr (inl p))) (λ p. inr (inr (inr p))) found.4)
-    )
-    (option_cases (pointer s e.1))
-    )
-    (
-    λ some. let found = pair_at s e.0 some.0 is_state some.1 (answer e.0 some.0 some.1) in
-    (found.0, found.1, found.2, found.3, ⊎_elim (λ p. inl p) (λ p. inr (inl p)) found.4)
-    )
-    (option_cases (pointer s e.0))
-  where
-    edge : IsTrue (linked s.network e.0 e.1)
-    edge = linked_pair s.network e.0 e.1 (is_state.is_network.low_first e.0 e.1 h) ∙ h
+-- of an edge's two ends one points somewhere, and is answered
+pub end_answered : (uses_flags : Bool) (s : State) → IsState s → IsStable uses_flags s → (e : ℕ × ℕ) → IsTrue (map.contains_key s.network.edges e) → ((w : ℕ) × (pointer s e.0 ≡ Some w) × (pointer s w ≡ Some e.0)) ⊎ ((w : ℕ) × (pointer s e.1 ≡ Some w) × (pointer s w ≡ Some e.1))
+end_answered uses_flags s good stable e h =
+    let near : IsTrue (linked s.network e.0 e.1) = linked_pair s.network e.0 e.1 (good.is_network.low_first e.0 e.1 h) ∙ h in
+    grind (arith, stable.covered e.0 e.1 near, stable.answered e.0, stable.answered e.1, if_some_at, option_cases)
 
-    answer : (v w : ℕ) → pointer s v ≡ Some w → pointer s w ≡ Some v
-    answer v w there = if_some_at (pointer s v) (λ x. pointer s x ≡ Some v) w there (stable.answered v)
+-- that end's pair shares the end with the edge
+touched : (uses_flags : Bool) (s : State) → IsState s → IsStable uses_flags s → (e : ℕ × ℕ) → IsTrue (map.contains_key s.network.edges e) → Any (ShareAnEnd e) (mutual_pairs s)
+touched uses_flags s good stable e h = grind (arith, end_answered uses_flags s good stable e h, pair_at)
 
 pub maximal_from_stable : (uses_flags : Bool) (s : State) → IsState s → IsStable uses_flags s → IsMaximalMatching s.network (mutual_pairs s)
 maximal_from_stable uses_flags s is_state stable = record {
@@ -53,19 +38,16 @@ maximal_from_stable uses_flags s is_state stable = record {
   maximal = touched uses_flags s is_state stable;
 }
 
+clash : (p : ℕ → Option ℕ) (e f : ℕ × ℕ) → p e.0 ≡ None → p e.1 ≡ None → p f.0 ≡ Some f.1 → p f.1 ≡ Some f.0 → ShareAnEnd e f → ⊥
+clash p e f low high there back shared = grind arith
+
 -- An edge with two null ends would share an end with a pair, whose ends both point somewhere.
 uncovered : (s : State) → IsMaximalMatching s.network (mutual_pairs s) → (v w : ℕ) → IsTrue (linked s.network v w) → pointer s v ≡ None → pointer s w ≡ None → ⊥
 uncovered s matching v w h null other =
     let found = matching.maximal (min v w, max v w) h in
     let pair = pair_from s found.1 (found.0, found.2, found.3) in
-    let clash : (a b : ℕ) → pointer s a ≡ None → a ≡ b → (x : ℕ) → pointer s b ≡ Some x → ⊥ = λ a b p q x r. let same = ap (pointer s) q in absurd cc in
-    ⊎_elim
-    (λ p. clash _ _ ends.0 p _ pair.there)
-    (⊎_elim (λ p. clash _ _ ends.0 p _ pair.back) (⊎_elim (λ p. clash _ _ ends.1 p _ pair.there) (λ p. clash _ _ ends.1 p _ pair.back)))
-    found.4
-  where
-    ends : (pointer s (min v w) ≡ None) × (pointer s (max v w) ≡ None)
-    ends = edge_either (λ e. (pointer s e.0 ≡ None) × (pointer s e.1 ≡ None)) v w (null, other) (other, null)
+    let ends : (pointer s (min v w) ≡ None) × (pointer s (max v w) ≡ None) = edge_either (λ e. (pointer s e.0 ≡ None) × (pointer s e.1 ≡ None)) v w (null, other) (other, null) in
+    clash (pointer s) (min v w, max v w) found.1 ends.0 ends.1 pair.there pair.back found.4
 
 pub stable_from_maximal : (uses_flags : Bool) (s : State) → IsState s → ((v : ℕ) → IfSome (pointer s v) (λ w. pointer s w ≡ Some v)) → (IsTrue uses_flags → (v : ℕ) → IsTrue (present s.network v) → flag s v ≡ married s v) → IsMaximalMatching s.network (mutual_pairs s) → IsStable uses_flags s
 stable_from_maximal uses_flags s is_state answered flagged matching =

@@ -1,5 +1,5 @@
 -- The list of mutual pairs.
-use Rattle.machine_laws.proofs.Prelude.{◌≡◌, ℕ, Bool, true, false, cond, filter, IsTrue, zero, suc, ◌+◌, ◌<◌, ◌≤◌, List, [], ◌∷◌, Option, None, Some, Contains, Any, nat_lt, filter_map, refl, sym, ap, ◌∙◌, subst, ⊎_elim, ◌⊎◌, arith, lt-ltb, range_with_len, cons_option, cases_eq, cases_order, cond-true, cond_some, Contains-push, Contains-push_cases, Contains-append_left, Contains-append_right, Contains-append_cases, names, present, State, IsState, pointer, partner, pair_above, mutual_pairs}
+use Rattle.machine_laws.proofs.Prelude.{◌≡◌, ℕ, Bool, true, false, cond, filter, IsTrue, zero, suc, ◌+◌, ◌<◌, ◌≤◌, List, [], ◌∷◌, Option, None, Some, Contains, Any, nat_lt, filter_map, refl, sym, ap, ◌∙◌, subst, ⊎_elim, ◌⊎◌, arith, lt-ltb, range_with_len, cons_option, cases_eq, cases_order, cond-true, cond_some, Contains-push, Contains-push_cases, Contains-append_left, Contains-append_right, Contains-append_cases, names, Network, present, State, IsState, pointer, partner, pair_above, mutual_pairs}
 use Rattle.std.proofs.Common.{ltb-true}
 use Rattle.machine_laws.proofs.Neighbours.{present_range, linked_present, linked_apart}
 use Rattle.machine_laws.proofs.Pointers.{pointer_linked, partner_some, partner_from}
@@ -26,27 +26,35 @@ filter_map_from {X = X} {Y = Y} h (x ∷ xs) y c = go (h x) refl (filter_map_fro
     go None e more k = more k
     go (Some z) e more k = ⊎_elim (λ same. (x, e ∙ ap Some same)) more (contains_cases z y (filter_map h xs) k)
 
--- what a number of the range that passes gives is in the list
-pub filter_map_range : {Y : Type 0} (p : ℕ → Bool) (h : ℕ → Option Y) (a n x : ℕ) (y : Y) → a ≤ x → x < a + n → IsTrue (p x) → h x ≡ Some y → Contains (filter_map h (filter p (range_with_len a n))) y
-filter_map_range p h a zero x y low high passes e = absurd (omega arith)
-filter_map_range {Y = Y} p h a (suc n) x y low high passes e =
-    let rest = filter p (range_with_len (a + 1) n) in
-    ⊎_elim
-    (
-    λ same. let given : h a ≡ Some y = ap h same ∙ e in
-    subst (λ b. Contains (filter_map h (cond b (a ∷ rest) rest)) y) (sym (ap p same ∙ passes))
-    (subst (λ o. Contains (cons_option o (filter_map h rest)) y) (sym given) (contains_first y _))
-    )
-    (λ apart. skip (p a) (filter_map_range p h (a + 1) n x y (omega arith) (omega arith) passes e))
-    (cases_eq a x)
-  where
-    keep : (o : Option Y) (ys : List Y) → Contains ys y → Contains (cons_option o ys) y
-    keep None ys c = c
-    keep (Some z) ys c = contains_rest z y _ c
+cons_option_contains : {Y : Type 0} (o : Option Y) (ys : List Y) (y : Y) → Contains ys y → Contains (cons_option o ys) y
+cons_option_contains None ys y at = at
+cons_option_contains (Some z) ys y at = contains_rest z y ys at
 
-    skip : (b : Bool) → Contains (filter_map h (filter p (range_with_len (a + 1) n))) y → Contains (filter_map h (cond b (a ∷ filter p (range_with_len (a + 1) n)) (filter p (range_with_len (a + 1) n)))) y
-    skip true c = keep (h a) (filter_map h (filter p (range_with_len (a + 1) n))) c
-    skip false c = c
+-- what h gives of an element is among what it gives
+pub filter_map_contains : {X Y : Type 0} (h : X → Option Y) (xs : List X) (x : X) (y : Y) → Contains xs x → h x ≡ Some y → Contains (filter_map h xs) y
+filter_map_contains h [] x y at e = absurd (contains_empty x at)
+filter_map_contains h (z ∷ xs) x y at e =
+    ⊎_elim
+    (λ same. subst (λ o. Contains (cons_option o (filter_map h xs)) y) (sym (ap h same ∙ e)) (contains_first y _))
+    (λ there. cons_option_contains (h z) (filter_map h xs) y (filter_map_contains h xs x y there e))
+    (contains_cases z x xs at)
+
+filter_has : (p : ℕ → Bool) (a n v : ℕ) → a ≤ v → v < a + n → IsTrue (p v) → Contains (filter p (range_with_len a n)) v
+filter_has p a zero v low high passes = absurd (omega arith)
+filter_has p a (suc n) v low high passes =
+    ⊎_elim
+    (λ same. subst (λ b. Contains (cond b (a ∷ filter p (range_with_len (a + 1) n)) (filter p (range_with_len (a + 1) n))) v) (sym (ap p same ∙ passes)) (subst (λ x. Contains (a ∷ filter p (range_with_len (a + 1) n)) x) same (contains_first a _)))
+    (λ apart. kept (p a) (filter_has p (a + 1) n v (omega arith) (omega arith) passes))
+    (cases_eq a v)
+  where
+    kept : (b : Bool) → Contains (filter p (range_with_len (a + 1) n)) v → Contains (cond b (a ∷ filter p (range_with_len (a + 1) n)) (filter p (range_with_len (a + 1) n))) v
+    kept true c = contains_rest a v _ c
+    kept false c = c
+
+-- a node that is present is among the names
+pub names_contains : (net : Network) (v : ℕ) → IsTrue (present net v) → Contains (names net) v
+names_contains net v has =
+    let bounds = present_range net v has in filter_has (present net) 1 net.size v bounds.0 (omega arith) has
 
 -- the lower end comes first, and the two ends point at each other
 pub record IsMutualPair (s : State) (e : ℕ × ℕ) : Type 0 where
@@ -71,9 +79,8 @@ pair_from s e c =
 pub pair_listed : (s : State) (v w : ℕ) → IsState s → v < w → pointer s v ≡ Some w → pointer s w ≡ Some v → Contains (mutual_pairs s) (v, w)
 pair_listed s v w is_state below there back =
     let has = linked_present s.network v w is_state.is_network (pointer_linked s v w is_state there) in
-    let bounds = present_range s.network v has in
     let given : pair_above v (partner s v) ≡ Some (v, w) = ap (pair_above v) (partner_from s v w is_state there back) ∙ cond-true (nat_lt v w) (Some (v, w)) None (lt-ltb v w below) in
-    filter_map_range (present s.network) (λ v. pair_above v (partner s v)) 1 s.network.size v (v, w) bounds.0 (omega arith) has given
+    filter_map_contains (λ v. pair_above v (partner s v)) (names s.network) v (v, w) (names_contains s.network v has) given
 
 -- the pair of a married node
 pub pair_at : (s : State) (v w : ℕ) → IsState s → pointer s v ≡ Some w → pointer s w ≡ Some v → Any (λ f. (v ≡ f.0) ⊎ (v ≡ f.1)) (mutual_pairs s)

@@ -1,11 +1,9 @@
 -- The charge of a stable network.
-use Rattle.machine_laws.proofs.ChargePrelude.{◌≡◌, ℕ, Bool, true, false, ◌||◌, married, not, count_by, Some, IsTrue, ap, ◌∙◌, ⊎_elim, arith, not_from_true, linked, names, edge_list, State, IsState, pointer, is_unanswered, hsu_huang_closed, hsu_huang_charge, IsStable, option_cases, linked_pair, if_some_at}
+use Rattle.machine_laws.proofs.ChargePrelude.{◌≡◌, ℕ, Bool, true, false, ◌||◌, married, not, count_by, IsTrue, ap, ◌∙◌, ⊎_elim, arith, not_from_true, names, edge_list, State, IsState, pointer, is_unanswered, hsu_huang_closed, hsu_huang_charge, IsStable}
 use Rattle.machine_laws.proofs.ListCounts.{IsIn, none_count}
 use Rattle.machine_laws.proofs.Members.{edges_contain}
+use Rattle.machine_laws.proofs.MaximalMatchings.{end_answered}
 use Rattle.machine_laws.proofs.Stances.{married_is, stance, is_paired, unanswered_is, paired_from}
-
-answer_of : (uses_flags : Bool) (s : State) → IsStable uses_flags s → (v w : ℕ) → pointer s v ≡ Some w → pointer s w ≡ Some v
-answer_of uses_flags s stable v w e = if_some_at (pointer s v) (λ x. pointer s x ≡ Some v) w e (stable.answered v)
 
 -- no pointer is unanswered
 pub none_unanswered : (uses_flags : Bool) (s : State) → IsStable uses_flags s → count_by (is_unanswered s) (names s.network) ≡ 0
@@ -14,15 +12,10 @@ none_unanswered uses_flags s stable = grind (arith, none_count, unanswered_is)
 -- each edge has an end that is paired
 pub an_end_paired : (uses_flags : Bool) (s : State) → IsState s → IsStable uses_flags s → (e : ℕ × ℕ) → IsIn e (edge_list s.network) → (P : Type 0) → (IsTrue (is_paired (stance (pointer s) e.0)) → P) → (IsTrue (is_paired (stance (pointer s) e.1)) → P) → P
 an_end_paired uses_flags s good stable e there P low high =
-    let at = edges_contain s.network e there in
-    let near : IsTrue (linked s.network e.0 e.1) = linked_pair s.network e.0 e.1 (good.is_network.low_first e.0 e.1 at) ∙ at in
     ⊎_elim
-    (λ null. ⊎_elim
-    (λ other. absurd (stable.covered e.0 e.1 near null other))
-    (λ some. high (ap is_paired (paired_from (pointer s) e.1 some.0 some.1 (answer_of uses_flags s stable e.1 some.0 some.1))))
-    (option_cases (pointer s e.1)))
-    (λ some. low (ap is_paired (paired_from (pointer s) e.0 some.0 some.1 (answer_of uses_flags s stable e.0 some.0 some.1))))
-    (option_cases (pointer s e.0))
+    (λ (w, to, back). low (ap is_paired (paired_from (pointer s) e.0 w to back)))
+    (λ (w, to, back). high (ap is_paired (paired_from (pointer s) e.1 w to back)))
+    (end_answered uses_flags s good stable e (edges_contain s.network e there))
 
 -- Hsu and Huang: 0
 pub hsu_huang_stable_is_zero : (s : State) → IsState s → IsStable false s → hsu_huang_charge s ≡ 0

@@ -1,26 +1,23 @@
 -- Events lead from valid states to valid states.
-use Rattle.machine_laws.proofs.Prelude.{◌≡◌, ℕ, ◌+◌, ◌≤◌, Bool, false, List, map, set, [], ◌∷◌, length, fold, replicate, Option, None, Some, IsTrue, sym, ap, ◌∙◌, ⊎_elim, arith, get_or, AllByRecursion, length-set, length-map, length-replicate, get_or-replicate, get_or_past, get_or-set_same, get_or-set_other, get_or-map, true≢false, cases_lt, Act, Update, Abandon, Moved, Network, edge, linked, present, State, Registers, IsState, opening_with, is_at, pointer, pointer_of, flag_of, with_pointer, with_flag, married, after_link, after_unlink, after_point, after_flag, after_join, after_leave, without_pointer, without_name, unless_at, written, after_move, after_moves, IsMoveIn}
+use Rattle.machine_laws.proofs.Prelude.{none-some, ◌≡◌, ℕ, ◌+◌, ◌≤◌, Bool, false, List, map, set, [], ◌∷◌, length, fold, replicate, Option, None, Some, IsTrue, sym, ap, ◌∙◌, ⊎_elim, arith, get_or, AllByRecursion, length-set, length-map, length-replicate, get_or-replicate, get_or_past, get_or-set_same, get_or-set_other, get_or-map, true≢false, cases_lt, Act, Update, Abandon, Moved, Network, edge, linked, present, State, Registers, IsState, opening_with, is_at, pointer, pointer_of, flag_of, with_pointer, with_flag, married, after_link, after_unlink, after_point, after_flag, after_join, after_leave, without_pointer, without_name, unless_at, written, after_move, after_moves, IsMoveIn}
 use Rattle.machine_laws.proofs.Edges.{edgeless_is_network, with_node_is_network, without_node_is_network, still_present, present_other, still_without, with_edge_is_network, without_edge_is_network, still_inserted, still_removed, edge_ends}
 use Rattle.machine_laws.proofs.Writes.{if_some_from, if_some_at, cleared, is_at_from_some, pointer-with_pointer_other, pointer_cases, flag_cases, without_pointer_was, without_pointer_gone, without_pointer_flags, without_pointer_len}
 
 abbrev nowhere : Option ℕ
 nowhere = None
 
-blank_null : (n v : ℕ) → get_or (replicate n nowhere) v nowhere ≡ nowhere
-blank_null n v = grind (arith, get_or-replicate, get_or_past, length-replicate, cases_lt)
-
-blank_pointer : (n v x : ℕ) → get_or (replicate n nowhere) v nowhere ≡ Some x → ⊥
-blank_pointer n v x e = let k : nowhere ≡ Some x = sym (blank_null n v) ∙ e in cc
+blank : {X : Type 0} (n v : ℕ) (d : X) → get_or (replicate n d) v d ≡ d
+blank n v d = grind (arith, get_or-replicate, get_or_past, length-replicate, cases_lt)
 
 pub blank_flag : (n v : ℕ) → get_or (replicate n false) v false ≡ false
-blank_flag n v = grind (arith, get_or-replicate, get_or_past, length-replicate, cases_lt)
+blank_flag n v = blank n v false
 
 pub opening_is_state : (size count : ℕ) → IsState (opening_with size count)
 opening_is_state size count = record {
   is_network = edgeless_is_network size count;
   pointers_len = length-replicate (size + 1) nowhere;
   flags_len = length-replicate (size + 1) false;
-  neighbourly = λ v. if_some_from _ _ (λ x e. absurd (blank_pointer (size + 1) v x e));
+  neighbourly = λ v. if_some_from _ _ (λ x e. absurd (none-some x (sym (blank (size + 1) v nowhere) ∙ e)));
   flagged_present = λ v h. absurd (true≢false (sym h ∙ blank_flag (size + 1) v));
 }
 

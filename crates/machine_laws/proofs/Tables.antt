@@ -1,6 +1,6 @@
 -- Both tables have the laws that a run needs: targets are neighbours, of rules that take one, and an enabled
 -- rule that takes a target has one.
-use Rattle.machine_laws.proofs.ChargePrelude.{◌≡◌, ℕ, zero, suc, ◌<◌, ◌≤◌, Bool, false, ◌&&◌, is_some, IsSome, find, IsTrue, refl, sym, ap, ◌∙◌, subst, ⊎_elim, arith, and_parts, and_from, cases_Bool, cases_eq, true≢false, ltb-true, false_from_ne_true, Act, Update, Marry, Seduce, Abandon, linked, neighbours, State, IsState, suits, has_suitor, RuleTable, is_open, least_target, hsu_huang, hsu_huang_opens, manne, may_court, takes_target, near_some, near_found, near_fails, present_range, linked_present, linked_back, some_is, IsTable, IsFlagless}
+use Rattle.machine_laws.proofs.ChargePrelude.{not, nat_lt, ◌+◌, option_cases, ◌≡◌, ℕ, zero, suc, ◌<◌, Bool, false, ◌&&◌, is_some, IsSome, find, IsTrue, refl, sym, ap, ◌∙◌, ⊎_elim, arith, and_parts, and_from, true≢false, ltb-true, Act, Update, Marry, Seduce, Abandon, linked, neighbours, State, IsState, suits, has_suitor, RuleTable, is_open, least_target, hsu_huang, hsu_huang_opens, manne, may_court, takes_target, near_some, near_found, present_range, linked_present, linked_back, some_is, IsTable, IsFlagless}
 use Rattle.machine_laws.proofs.PresentMovers.{hsu_huang_inside, manne_inside}
 
 -- if a neighbour passes a test, and the test is what is allowed, there is a target
@@ -10,37 +10,26 @@ target_found t s v act test good h allowed =
     let near = near_some s.network test v found.0 found.1 in
     ap is_some (near_found s.network (t.allowed s v act) v found.0 good.is_network near.0 (allowed found.0 near.0 near.1)).1
 
--- the greatest number up to n that passes, if one does
-greatest_up_to : (q : ℕ → Bool) (n x : ℕ) → x ≤ n → IsTrue (q x) → (g : ℕ) × IsTrue (q g) × ((y : ℕ) → g < y → y ≤ n → q y ≡ false)
-greatest_up_to q zero x le h = (zero, subst (λ y. IsTrue (q y)) (omega arith) h, λ y above below. absurd (omega arith))
-greatest_up_to q (suc n) x le h =
+-- from a neighbour that v may court up to the greatest one
+climb : (s : State) (v : ℕ) → IsState s → (n g : ℕ) → s.network.size < g + n → IsTrue (linked s.network v g) → IsTrue (may_court s v g) → (w : ℕ) × IsTrue (linked s.network v w) × IsTrue (manne.allowed s v Seduce w)
+climb s v good zero g high near may =
+    let most = (present_range s.network g (linked_present s.network g v good.is_network (linked_back s.network g v ∙ near))).1 in absurd (omega (arith, high, most))
+climb s v good (suc n) g high near may =
     ⊎_elim
-    (λ last. (suc n, last, λ y above below. absurd (omega arith)))
-    (λ fails. let rest = greatest_up_to q n x (⊎_elim (λ same. absurd (true≢false (sym h ∙ ap q same ∙ fails))) (λ apart. omega arith) (cases_eq x (suc n))) h in
-    (rest.0, rest.1, λ y above below. ⊎_elim (λ same. ap q same ∙ fails) (λ apart. rest.2 y above (omega arith)) (cases_eq y (suc n))))
-    (cases_Bool (q (suc n)))
-
--- a neighbour that v may court is allowed if it may court none above it
-greatest_allowed : (s : State) (v g : ℕ) → IsTrue (linked s.network v g && may_court s v g) → ((x : ℕ) → g < x → IsTrue (linked s.network v x) → may_court s v x ≡ false) → IsTrue (manne.allowed s v Seduce g)
-greatest_allowed s v g h none = grind (arith, and_from, near_fails, false_from_ne_true, and_parts, true≢false, ltb-true)
-
-neighbour_within : (s : State) (v x : ℕ) → IsState s → IsTrue (linked s.network v x) → x ≤ s.network.size
-neighbour_within s v x good near = (present_range s.network x (linked_present s.network x v good.is_network (linked_back s.network x v ∙ near))).1
+    (λ none. (g, near, and_from _ _ (and_from (linked s.network v g) (may_court s v g) near may) (ap (λ o. not (is_some o)) none)))
+    (λ (x, found).
+    let next = near_some s.network (λ x. may_court s v x && nat_lt g x) v x found in
+    let parts = and_parts (may_court s v x) (nat_lt g x) next.1 in
+    climb s v good n x (let up = ltb-true g x parts.1 in omega (arith, high, up)) next.0 parts.0)
+    (option_cases (find (λ x. may_court s v x && nat_lt g x) (neighbours s.network v)))
 
 -- v's greatest neighbour that it may court exists if there is any
 court_found : (s : State) (v : ℕ) → IsState s → IsTrue (is_some (find (may_court s v) (neighbours s.network v))) → IsSome (least_target manne s v Seduce)
 court_found s v good h =
     let found = some_is (find (may_court s v) (neighbours s.network v)) h in
     let near = near_some s.network (may_court s v) v found.0 found.1 in
-    by_greatest (greatest_up_to courted s.network.size found.0 (neighbour_within s v found.0 good near.0) (and_from (linked s.network v found.0) (may_court s v found.0) near.0 near.1))
-  where
-    courted : ℕ → Bool
-    courted x = linked s.network v x && may_court s v x
-
-    by_greatest : (g : ℕ) × IsTrue (courted g) × ((y : ℕ) → g < y → y ≤ s.network.size → courted y ≡ false) → IsSome (least_target manne s v Seduce)
-    by_greatest (g, passes, above) =
-        ap is_some (near_found s.network (manne.allowed s v Seduce) v g good.is_network (and_parts (linked s.network v g) (may_court s v g) passes).0
-        (greatest_allowed s v g passes (λ x up near. false_from_ne_true (may_court s v x) (λ may. true≢false (sym (and_from (linked s.network v x) (may_court s v x) near may) ∙ above x up (neighbour_within s v x good near)))))).1
+    let top = climb s v good (s.network.size + 1) found.0 (omega arith) near.0 near.1 in
+    ap is_some (near_found s.network (manne.allowed s v Seduce) v top.0 good.is_network top.1 top.2).1
 
 -- only Marry and Seduce take a target
 with_target : (allowed : Act → Bool) → allowed Update ≡ false → allowed Abandon ≡ false → (act : Act) → IsTrue (allowed act) → IsTrue (takes_target act)
