@@ -1,5 +1,5 @@
 -- What an event that is not refused guarantees, and that it leads to a state.
-use Rattle.machine_laws.proofs.Prelude.{nat_le, leb-true, ◌≡◌, ℕ, zero, suc, ◌<◌, Bool, true, false, cond, not, ◌&&◌, List, [], ◌∷◌, ◌++◌, length, Option, None, Some, IsTrue, nat_eq, nat_lt, refl, sym, ◌∙◌, subst, get_or, arith, list_any, option_or, cond-true, cond-false, true≢false, and_parts, or_parts, list_any-append, none-some, same_Some, Act, Item, Moved, Outcome, Event, Link, Unlink, Point, Flag, Step, Join, Leave, Refusal, UnknownNode, NotNeighbour, NoFlag, ChosenTwice, NotEnabled, BadTarget, present, linked, State, IsState, RuleTable, both_present, rule_refusal, item_refusal, items_refusal, step_refusal, refusal_of, outcome_at, outcome_of, move_in, item_of, accepted_state, state_by, state_after}
+use Rattle.machine_laws.proofs.Prelude.{nat_le, leb-true, ◌≡◌, ℕ, zero, suc, ◌<◌, Bool, true, false, cond, not, ◌&&◌, List, [], ◌∷◌, ◌++◌, length, Option, None, Some, IsTrue, nat_eq, nat_lt, refl, sym, ◌∙◌, subst, get_or, arith, list_any, option_or, cond-true, cond-false, true≢false, and_parts, or_parts, list_any-append, none-some, same_Some, Act, Item, Moved, Event, Link, Unlink, Point, Flag, Step, Join, Leave, Refusal, UnknownNode, NotNeighbour, NoFlag, BadTarget, present, linked, State, IsState, RuleTable, both_present, rule_refusal, item_refusal, items_refusal, step_refusal, refusal_of, outcome_by, wish_refusal, ap, outcome_at, outcome_of, move_in, item_of, accepted_state, state_by, state_after}
 use Rattle.std.proofs.Common.{eq-eqb}
 use Rattle.rule_machine.specs.declared.verdict.Outcome.TheVariants as outcome
 use Rattle.machine_laws.proofs.StatePreservation.{link_keeps, unlink_keeps, point_keeps, flag_keeps, join_keeps, leave_keeps}
@@ -20,28 +20,14 @@ option_or_none x p e = grind (arith, none-some)
 pub true_from_not : (b : Bool) → not b ≡ false → b ≡ true
 true_from_not b e = grind arith
 
--- why an item of this outcome is refused, if it is
-abbrev pub refusal_by_outcome : Outcome → Option Refusal
-refusal_by_outcome outcome.Absent = Some UnknownNode
-refusal_by_outcome outcome.Idle = Some NotEnabled
-refusal_by_outcome outcome.Wrong = Some BadTarget
-refusal_by_outcome (outcome.Moves m) = None
+-- an item that its node's rule and its wish do not refuse makes a move
+wish_move : (t : RuleTable) (s : State) (v : ℕ) (act : Act) (wish : Option ℕ) → wish_refusal (t.allowed s v act) wish ≡ None → (m : Moved) × (move_in (outcome_by t s v act wish) ≡ Some m)
+wish_move t s v act None e = (_, refl)
+wish_move t s v act (Some w) e = let m : Moved = record { node = v; act = act; target = Some w } in (m, ap (λ b. move_in (cond b (outcome.Moves m) outcome.Wrong)) (none_cond (t.allowed s v act w) BadTarget e))
 
-refusal_by_rule : (t : RuleTable) (s : State) (item : Item) (r : Option Act) → rule_refusal t s item r ≡ refusal_by_outcome (outcome_at t s item r)
-refusal_by_rule t s item r = grind arith
-
-refusal_by_present : (b twice : Bool) (refusal : Option Refusal) (o : Outcome) → refusal ≡ refusal_by_outcome o → cond (not b) (Some UnknownNode) (cond twice (Some ChosenTwice) refusal) ≡ cond (not b) (Some UnknownNode) (cond twice (Some ChosenTwice) (refusal_by_outcome (cond b o outcome.Absent)))
-refusal_by_present b twice refusal o e = grind arith
-
--- An item is refused if its node is absent, then if the node was chosen before, and else by its outcome.
-pub outcome_refusal : (t : RuleTable) (s : State) (earlier : List Item) (item : Item) → item_refusal t s earlier item ≡ cond (not (present s.network item.node)) (Some UnknownNode) (cond (list_any (λ i. nat_eq i.node item.node) earlier) (Some ChosenTwice) (refusal_by_outcome (outcome_of t s item)))
-outcome_refusal t s earlier item = grind (arith, refusal_by_present, refusal_by_rule)
-
-move_from_none : (o : Outcome) → refusal_by_outcome o ≡ None → (m : Moved) × (move_in o ≡ Some m)
-move_from_none outcome.Absent e = absurd (none-some UnknownNode (sym e))
-move_from_none outcome.Idle e = absurd (none-some NotEnabled (sym e))
-move_from_none outcome.Wrong e = absurd (none-some BadTarget (sym e))
-move_from_none (outcome.Moves m) e = (m, refl)
+rule_move : (t : RuleTable) (s : State) (item : Item) (r : Option Act) → rule_refusal t s item r ≡ None → (m : Moved) × (move_in (outcome_at t s item r) ≡ Some m)
+rule_move t s item None e = absurd cc
+rule_move t s item (Some act) e = wish_move t s item.node act item.wish e
 
 -- an item that is not refused after the earlier items: its node is present and was not chosen before, and
 -- the item makes a move
@@ -51,7 +37,7 @@ pub record IsTaken (t : RuleTable) (s : State) (earlier : List Item) (item : Ite
   pub move : (m : Moved) × (move_in (outcome_of t s item) ≡ Some m)
 
 pub taken_from_none : (t : RuleTable) (s : State) (earlier : List Item) (item : Item) → item_refusal t s earlier item ≡ None → IsTaken t s earlier item
-taken_from_none t s earlier item e = grind (arith, cond_none, outcome_refusal, true_from_not, move_from_none)
+taken_from_none t s earlier item e = grind (arith, cond_none, true_from_not, rule_move)
 
 -- Each item of a choice that is not refused is taken, and is the first of its node. By induction: the head is
 -- found at once; a later item is fresh after the head too, so the head has another node, and the search

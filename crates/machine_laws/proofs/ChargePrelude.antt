@@ -27,7 +27,7 @@ pub use Rattle.machine_laws.proofs.Neighbours.{linked_present, option_cases, lin
 pub use Rattle.machine_laws.proofs.Pointers.{points_true, pointer_linked, suitor_linked, absent_null, null_unmarried, unanswered_unmarried, partner_some, no_suitor, points_from, partner_from, some_is, suitor_some, suitor_from, married_some, married_from}
 pub use Rattle.machine_laws.proofs.Runs.{answers_keep, runs_end_in_states}
 pub use Rattle.machine_laws.proofs.Sizes.{runs_keep_size}
-pub use Rattle.machine_laws.proofs.StatePreservation.{unlink_keeps, leave_keeps, opening_is_state, point_keeps, link_keeps, join_keeps, left_pointer, flag_keeps, moves_keep}
+pub use Rattle.machine_laws.proofs.StatePreservation.{unlinked_pointer, unlink_keeps, leave_keeps, opening_is_state, point_keeps, link_keeps, join_keeps, left_pointer, flag_keeps, moves_keep}
 pub use Rattle.machine_laws.proofs.UnusedFlags.{IsFlagless, opening_is_unflagged, runs_stay_unflagged}
 pub use Rattle.machine_laws.proofs.Writes.{if_some_from, pointer-with_pointer_other, pointer-with_pointer_same, some_from_is_at, without_pointer_was, without_pointer_gone, flag-with_flag_other, flag-with_flag_same, without_pointer_flags, if_some_at, is_at_from_some}
 pub use Rattle.machine_laws.specs.TwoPasses.{IsMoveIn}

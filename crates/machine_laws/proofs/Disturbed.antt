@@ -1,7 +1,7 @@
 -- What a disturbance leaves of a state, and how far that raises the charge: the part that is the same under
 -- all rules.
-use Rattle.machine_laws.proofs.ChargePrelude.{◌≡◌, ◌≢◌, ℕ, ◌+◌, ◌*◌, ◌<◌, ◌≤◌, Bool, true, false, cond, not, ◌&&◌, ◌||◌, List, [], ◌∷◌, map, count_by, sum_by, nat_eq, Option, None, Some, IsTrue, refl, sym, ap, ◌∙◌, subst, inl, inr, ⊎_elim, ◌⊎◌, arith, cases_eq, true≢false, sum_by-cons, get_or-map, cond-false, ne_eqb, Network, IsNetwork, is_at, degree, degree_at, edge, is_end, present, names, edge_list, State, IsState, Registers, pointer, pointer_of, is_unanswered, holds_at, points, after_link, after_join, after_point, after_unlink, after_leave, without_pointer, min, max, inserted_cases, unless_at, removed_was, left_was, present_other, without_pointer_was, without_pointer_gone, pointer-with_pointer_other, pointer-with_pointer_same, without_pointer_stays, left_pointer, present_range, nothing_left, none-some, false_from_ne_true, unlink_keeps}
-use Rattle.machine_laws.proofs.ListCounts.{count_or, IsIn, IsWithoutRepeats, without, in_without, count_agree, none_count, once}
+use Rattle.machine_laws.proofs.ChargePrelude.{◌≡◌, ◌≢◌, ℕ, ◌+◌, ◌*◌, ◌<◌, ◌≤◌, Bool, true, false, cond, not, ◌&&◌, ◌||◌, List, [], ◌∷◌, map, count_by, sum_by, nat_eq, Option, None, Some, IsTrue, refl, sym, ap, ◌∙◌, subst, inl, inr, ⊎_elim, ◌⊎◌, arith, cases_eq, true≢false, sum_by-cons, get_or-map, cond-false, ne_eqb, Network, IsNetwork, is_at, degree, degree_at, edge, is_end, present, names, edge_list, State, IsState, Registers, pointer, is_unanswered, holds_at, points, after_link, after_join, after_point, after_unlink, after_leave, min, max, inserted_cases, unless_at, removed_was, left_was, present_other, pointer-with_pointer_other, pointer-with_pointer_same, without_pointer_stays, left_pointer, unlinked_pointer, present_range, nothing_left, none-some, false_from_ne_true, unlink_keeps}
+use Rattle.machine_laws.proofs.ListCounts.{sum_without, count_or, IsIn, IsWithoutRepeats, without, in_without, count_agree, none_count, once}
 use Rattle.std.specs.FinMap as finmap
 use Rattle.machine_laws.proofs.EdgeChanges.{taken_out}
 use Rattle.machine_laws.proofs.Members.{in_names, names_present, in_edges, edges_contain, names_without_repeats}
@@ -23,12 +23,6 @@ same_network net = record { edges = λ e there. there; nodes = λ v there. there
 -- each node that waits by p' waits by p, or is marked
 abbrev pub WaitsOnly : (ℕ → Option ℕ) → (ℕ → Option ℕ) → (ℕ → Bool) → Type 0
 WaitsOnly p p' marked = (x w : ℕ) → p' x ≡ Some w → p' w ≢ Some x → IsTrue (is_waiting (stance p x)) ⊎ IsTrue (marked x)
-
--- a sum over some of the elements, each once
-sum_without : {X : Type 0} (f : X → ℕ) (xs : List X) (y : X) (h : IsIn y xs) → sum_by f xs ≡ f y + sum_by f (without xs y h)
-sum_without f [] y h = absurd h
-sum_without f (x ∷ xs) y (inl same) = sum_by-cons f x xs ∙ ap (λ z. f z + sum_by f xs) same
-sum_without f (x ∷ xs) y (inr there) = grind (arith, sum_without f xs y there, sum_by-cons)
 
 -- a sum grows by at most what each element adds to its term, or to nothing
 pub sum_grows : {X : Type 0} (f f' more : X → ℕ) (xs xs' : List X) → IsWithoutRepeats xs' → ((x : X) → IsIn x xs' → (IsIn x xs × (f' x ≤ f x + more x)) ⊎ (f' x ≤ more x)) → sum_by f' xs' ≤ sum_by f xs + sum_by more xs'
@@ -175,14 +169,10 @@ module _ (s : State) (a b : ℕ) where
   abbrev pub across : ℕ → ℕ → Bool
   across x w = (nat_eq x a && nat_eq w b) || (nat_eq x b && nat_eq w a)
 
-  abbrev half : Registers
-  half = without_pointer s.registers a b
-
   pub unlink_cuts : IsCut (pointer s) (pointer (after_unlink s a b)) across
   unlink_cuts = record {
     stays = λ x w at free. grind (arith, without_pointer_stays);
-    was = λ x w at. let mid = without_pointer_was half b a x w at in
-        (without_pointer_was s.registers a b x w mid, free x w (λ i j. without_pointer_gone s.registers a b (ap (pointer_of half) (sym i) ∙ mid ∙ ap Some j)) (λ i j. without_pointer_gone half b a (ap (pointer (after_unlink s a b)) (sym i) ∙ at ∙ ap Some j)));
+    was = λ x w at. let left = unlinked_pointer s a b x w at in (left.0, free x w left.1 left.2);
     back = λ x w. grind arith;
   }
     where

@@ -54,15 +54,8 @@ count_without p s k there =
 
 -- No more pairs pass a test than there are.
 pub count_all_few : (p : ℕ × ℕ → Bool) (s : PairSet) → count_by p (map.keys s) ≤ map.len s
-count_all_few p s =
-    let few = count_by-le-length p (map.keys s) in
-    let keys = length-map (map.entries s) (λ e. e.0) in
-    let all = map.len-entries s in
-    omega (arith, few, keys, all)
+count_all_few p s = omega (arith, count_by-le-length p (map.keys s), length-map (map.entries s) (λ e. e.0), map.len-entries s)
 
 -- an empty set has nothing to count
 pub count_empty : (p : ℕ × ℕ → Bool) → count_by p (map.keys (map.empty {X = Unit {0}} {R = pair_cmp})) ≡ 0
-count_empty p =
-    let few = count_all_few p map.empty in
-    let none = map.len-empty pair_cmp (Unit {0}) in
-    omega (arith, few, none)
+count_empty p = omega (arith, count_all_few p map.empty, map.len-empty pair_cmp (Unit {0}))

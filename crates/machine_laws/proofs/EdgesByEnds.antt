@@ -1,15 +1,10 @@
 -- Counts of edges that pass a test, if a single node changes.
-use Rattle.machine_laws.proofs.ChargePrelude.{◌≡◌, ℕ, ◌+◌, ◌<◌, Bool, cond, not, ◌&&◌, List, [], ◌∷◌, count_by, nat_eq, IsTrue, refl, inl, inr, arith, Network, IsNetwork, names, present, neighbours, edge_list}
-use Rattle.machine_laws.proofs.ListCounts.{IsIn, count_agree, count_cons, sum_agree}
+use Rattle.machine_laws.proofs.ChargePrelude.{ap, ◌≡◌, ℕ, ◌+◌, ◌<◌, Bool, cond, not, ◌&&◌, count_by, nat_eq, IsTrue, refl, arith, Network, IsNetwork, names, present, neighbours, edge_list}
+use Rattle.machine_laws.proofs.ListCounts.{count_agree, count_before, sum_agree, sum_agree_in}
 use Rattle.machine_laws.proofs.Members.{edges_contain}
 use Rattle.machine_laws.proofs.EdgesByNodes.{has, at_node, at_upper, at_both}
 
 -- ---- a change at one node
-
--- what passes a test passes another before it or does not
-count_before : {X : Type 0} (s p : X → Bool) (xs : List X) → count_by p xs ≡ count_by (λ x. s x && p x) xs + count_by (λ x. not (s x) && p x) xs
-count_before s p [] = refl
-count_before s p (x ∷ xs) = grind (arith, count_before s p xs, count_cons p x xs, count_cons (λ y. s y && p y) x xs, count_cons (λ y. not (s y) && p y) x xs)
 
 -- whether a pair has the node at neither end and passes a test
 abbrev elsewhere : ℕ → (ℕ → ℕ → Bool) → ℕ × ℕ → Bool
@@ -39,11 +34,7 @@ one_node_changes net good p q v p_symmetric q_symmetric same =
 
 -- ---- tests that agree on what is there
 
-agree_in : {X : Type 0} (p q : X → Bool) (xs : List X) → ((x : X) → IsIn x xs → p x ≡ q x) → count_by p xs ≡ count_by q xs
-agree_in p q [] same = refl
-agree_in p q (x ∷ xs) same = grind (arith, agree_in p q xs (λ y there. same y (inr there)), same x (inl refl), count_cons p x xs, count_cons q x xs)
-
 -- Tests that agree on nodes count the same edges.
 pub edges_agree : (net : Network) → IsNetwork net → (p q : ℕ × ℕ → Bool) → ((a b : ℕ) → IsTrue (present net a) → IsTrue (present net b) → p (a, b) ≡ q (a, b)) → count_by p (edge_list net) ≡ count_by q (edge_list net)
 edges_agree net good p q same =
-    agree_in p q (edge_list net) (λ e there. let at = edges_contain net e there in same e.0 e.1 (good.low_present e.0 e.1 at) (good.high_present e.0 e.1 at))
+    sum_agree_in _ _ (edge_list net) (λ e there. let at = edges_contain net e there in ap (λ b. cond b 1 0) (same e.0 e.1 (good.low_present e.0 e.1 at) (good.high_present e.0 e.1 at)))

@@ -1,7 +1,7 @@
 -- The edges that pass a test are counted at their ends, each once.
-use Rattle.machine_laws.proofs.ChargePrelude.{◌≡◌, ℕ, ◌+◌, ◌<◌, ◌≤◌, Bool, true, cond, ◌&&◌, T, List, [], ◌∷◌, map, filter, count_by, sum_by, nat_eq, nat_lt, min, max, IsTrue, refl, sym, ap, ◌∙◌, subst, inl, inr, arith, is_sorted, below_all, and_parts, and_from, ap₂, linked_back, linked_apart, sum_by-cons, eq_by_cmp_equiv, cases_lt, lt-ltb, ⊎_elim, Network, IsNetwork, pair_cmp, edge, names, linked, neighbours, edge_list, pair_total}
+use Rattle.machine_laws.proofs.ChargePrelude.{◌≡◌, ℕ, ◌+◌, ◌<◌, ◌≤◌, Bool, true, false, cond, ◌&&◌, T, List, [], ◌∷◌, map, filter, count_by, sum_by, nat_eq, nat_lt, min, max, IsTrue, refl, sym, ap, ◌∙◌, subst, inl, inr, arith, is_sorted, below_all, and_parts, and_from, ap₂, linked_back, linked_apart, sum_by-cons, eq_by_cmp_equiv, cases_lt, lt-ltb, ⊎_elim, Network, IsNetwork, pair_cmp, edge, names, linked, neighbours, edge_list, pair_total}
 use Rattle.std.specs.FinMap as map
-use Rattle.machine_laws.proofs.ListCounts.{IsIn, IsWithoutRepeats, count_cons, sum_add, sum_agree, sum_swap, counted_once, count_agree}
+use Rattle.machine_laws.proofs.ListCounts.{none_count, IsIn, IsWithoutRepeats, count_cons, sum_add, sum_agree, sum_swap, counted_once, count_agree}
 use Rattle.machine_laws.proofs.Members.{in_names, names_without_repeats, in_edges, edges_contain}
 
 holds : (b : Bool) → T b → IsTrue b
@@ -23,8 +23,7 @@ edges_without_repeats net = keys_without_repeats (map.entries net.edges) (holds 
 -- ---- sums over names
 
 pub zeros : (xs : List ℕ) → sum_by (λ x. 0) xs ≡ 0
-zeros [] = refl
-zeros (x ∷ xs) = let whole = sum_by-cons {X = ℕ} (λ x. 0) x xs in let rest = zeros xs in omega (arith, whole, rest)
+zeros xs = none_count (λ x. false) xs (λ x there. refl)
 
 -- a name in a list without repeats is marked once
 pub marked_once : (a : ℕ) (b : Bool) (xs : List ℕ) → IsIn a xs → IsWithoutRepeats xs → sum_by (λ v. cond (nat_eq a v && b) 1 0) xs ≡ cond b 1 0

@@ -1,5 +1,5 @@
 -- The moves with the least targets; they lead to a state.
-use Rattle.machine_laws.proofs.Prelude.{◌≡◌, ℕ, Bool, true, cond, List, [], ◌∷◌, Option, Some, IsTrue, refl, sym, subst, find, filter_map, option_and_then, AllByRecursion, cons_option, cases_Bool, cond-true, cond-false, none-some, same_Some, cond_some, option_and_then_some, Act, Item, Moved, linked, present, names, State, IsState, RuleTable, rule_at, after_moves, outcome_by, outcome_at, outcome_of, move_in, item_of, least_moves, target_by, IsMoveIn, arith}
+use Rattle.machine_laws.proofs.Prelude.{◌≡◌, ℕ, Bool, true, cond, List, [], ◌∷◌, Option, Some, IsTrue, sym, subst, find, filter_map, option_and_then, AllByRecursion, cons_option, cases_Bool, cond-true, cond-false, none-some, same_Some, cond_some, option_and_then_some, Act, Item, Moved, linked, present, names, State, IsState, RuleTable, rule_at, after_moves, outcome_by, outcome_at, outcome_of, move_in, item_of, least_moves, target_by, IsMoveIn, arith}
 use Rattle.rule_machine.specs.declared.verdict.Outcome.TheVariants as outcome
 pub use Rattle.rule_machine.specs.Table.{IsTable}
 use Rattle.machine_laws.proofs.StatePreservation.{moves_keep}
@@ -34,12 +34,9 @@ makes_by_wish t s item act m x wish has rule e = grind (arith, same_Some, makes_
 makes_by_rule : (t : RuleTable) (s : State) (item : Item) (m : Moved) (r : Option Act) → rule_at t s item.node ≡ r → IsTrue (present s.network item.node) → move_in (outcome_at t s item r) ≡ Some m → Makes t s item m
 makes_by_rule t s item m x rule has e = grind (arith, none-some, makes_by_wish)
 
-makes_by_present : (t : RuleTable) (s : State) (item : Item) (m : Moved) (b : Bool) → present s.network item.node ≡ b → move_in (cond b (outcome_at t s item (rule_at t s item.node)) outcome.Absent) ≡ Some m → Makes t s item m
-makes_by_present t s item m x has e = grind (arith, makes_by_rule, none-some)
-
 -- an outcome that is a move is the move that its item makes
 pub makes_from_outcome : (t : RuleTable) (s : State) (item : Item) (m : Moved) → move_in (outcome_of t s item) ≡ Some m → Makes t s item m
-makes_from_outcome t s item m e = makes_by_present t s item m (present s.network item.node) refl e
+makes_from_outcome t s item m e = grind (arith, makes_by_rule, none-some)
 
 -- a target, if there is one, is allowed
 pub target_allowed : (t : RuleTable) (s : State) (v : ℕ) (wish : Option ℕ) (act : Act) (target : Option ℕ) → target_by t s v wish act ≡ Some target → (x : ℕ) → target ≡ Some x → IsTrue (t.allowed s v act x)

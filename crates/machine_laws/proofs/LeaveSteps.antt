@@ -1,6 +1,6 @@
 -- The steps by which a node leaves: its edges are removed one at a time, then its flag is cleared, then its
 -- name is freed.
-use Rattle.machine_laws.proofs.Prelude.{◌≡◌, ◌≢◌, ℕ, ◌-◌, ◌<◌, ◌≤◌, true, false, cond, List, [], length, map as map_list, get_or, min, max, set, find, IsTrue, refl, sym, ap, ◌∙◌, subst, ⊎_elim, arith, cases_eq, cases_lt, false_from_ne_true, true≢false, get_or-set_same, get_or-set_other, get_or_past, get_or-map, ext_get_or, length-set, length-map, set-set, tells_apart, Option, None, Some, Network, PairSet, IsNetwork, linked, neighbours, edge, edge_count, without_edge, without_node, State, Registers, IsState, is_at, is_end, pointer, pointer_of, flag_of, with_flag, after_unlink, after_flag, after_leave, without_pointer, without_name, unless_at}
+use Rattle.machine_laws.proofs.Prelude.{◌≡◌, ◌≢◌, ℕ, ◌-◌, ◌<◌, true, false, cond, List, [], length, map as map_list, get_or, min, max, set, find, IsTrue, refl, sym, ap, ◌∙◌, subst, ⊎_elim, arith, cases_eq, cases_lt, false_from_ne_true, true≢false, get_or-set_same, get_or-set_other, get_or_past, get_or-map, ext_get_or, length-set, length-map, set-set, tells_apart, Option, None, Some, Network, PairSet, IsNetwork, linked, neighbours, edge, edge_count, without_edge, without_node, State, Registers, IsState, is_at, is_end, pointer, pointer_of, flag_of, with_flag, after_unlink, after_flag, after_leave, without_pointer, without_name, unless_at}
 use Rattle.std.specs.FinMap as map
 use Rattle.machine_laws.proofs.Edges.{pair_total, pair_exact, contains-empty, contains-remove, contains-without, present_other, without_node_is_network}
 use Rattle.machine_laws.proofs.Neighbours.{near_none, linked_back, linked_pair}
@@ -106,8 +106,6 @@ pub fewer_edges : (net : Network) (a b : ℕ) → IsTrue (linked net a b) → ed
 fewer_edges net a b there =
     let less = map.len-remove pair_total net.edges (edge a b) ∙ ap (λ t. cond t (edge_count net - 1) (edge_count net)) there in
     ⊎_elim
-    (λ (some : 0 < edge_count net). omega (arith, less))
-    (λ (few : edge_count net ≤ 0).
-    let none : edge_count net ≡ 0 = omega arith in
-    absurd (true≢false (sym there ∙ ap (λ m. map.contains_key m (edge a b)) (map.empty_of_len net.edges none) ∙ contains-empty (edge a b))))
-    (cases_lt 0 (edge_count net))
+    (λ none. absurd (true≢false (sym there ∙ ap (λ m. map.contains_key m (edge a b)) (map.empty_of_len net.edges none) ∙ contains-empty (edge a b))))
+    (λ some. omega (arith, less, some))
+    (cases_eq (edge_count net) 0)

@@ -1,5 +1,5 @@
 -- Counts and sums over a list, compared element by element, or by an injection of one list into another.
-use Rattle.machine_laws.proofs.ChargePrelude.{not, ◌&&◌, ◌||◌, ◌≡◌, ℕ, ◌+◌, ◌*◌, ◌≤◌, Bool, true, false, cond, List, [], ◌∷◌, length, count_by, sum_by, IsTrue, refl, sym, ap, ap₂, ◌∙◌, subst, inl, inr, ⊎_elim, ◌⊎◌, arith, cases_Bool, cases_eq, cond-true, cond-false, nat_eq, eqb-true, true≢false, false_from_ne_true, sum_by-cons}
+use Rattle.machine_laws.proofs.ChargePrelude.{not, ◌&&◌, ◌||◌, ◌≡◌, ℕ, ◌+◌, ◌*◌, ◌≤◌, Bool, true, false, cond, List, [], ◌∷◌, length, count_by, sum_by, IsTrue, refl, sym, ap, ◌∙◌, subst, inl, inr, ⊎_elim, ◌⊎◌, arith, cases_Bool, cond-true, cond-false, nat_eq, eqb-true, true≢false, false_from_ne_true, sum_by-cons}
 
 -- y is in the list
 abbrev pub IsIn : {X : Type 0} → X → List X → Type 0
@@ -31,8 +31,7 @@ sum_twice f (x ∷ xs) = omega (arith, sum_by-cons (λ y. 2 * f y) x xs, sum_by-
 
 pub sum_zero : {X : Type 0} (f : X → ℕ) (xs : List X) → sum_by f xs ≡ 0 → (x : X) → IsIn x xs → f x ≡ 0
 sum_zero f [] e x h = absurd h
-sum_zero f (y ∷ ys) e x (inl same) = let whole = sum_by-cons f y ys in subst (λ z. f z ≡ 0) same (omega (arith, whole, e))
-sum_zero f (y ∷ ys) e x (inr there) = let whole = sum_by-cons f y ys in sum_zero f ys (omega (arith, whole, e)) x there
+sum_zero f (y ∷ ys) e x at = grind (arith, sum_zero f ys, sum_by-cons)
 
 pub count_none : {X : Type 0} (p : X → Bool) (xs : List X) → count_by p xs ≡ 0 → (x : X) → IsIn x xs → p x ≡ false
 count_none p xs e x h = grind (arith, sum_zero)
@@ -42,9 +41,11 @@ count_all [] = refl
 count_all {X = X} (x ∷ xs) = sum_by-cons {X = X} (λ x. 1) x xs ∙ (let rest = count_all xs in omega (arith, rest))
 
 -- terms that agree have the same sum, and tests that agree the same count
+pub sum_agree_in : {X : Type 0} (f g : X → ℕ) (xs : List X) → ((x : X) → IsIn x xs → f x ≡ g x) → sum_by f xs ≡ sum_by g xs
+sum_agree_in f g xs same = grind (arith, sum_le)
+
 pub sum_agree : {X : Type 0} (f g : X → ℕ) → ((x : X) → f x ≡ g x) → (xs : List X) → sum_by f xs ≡ sum_by g xs
-sum_agree f g same [] = refl
-sum_agree f g same (x ∷ xs) = sum_by-cons f x xs ∙ ap₂ ◌+◌ (same x) (sum_agree f g same xs) ∙ sym (sum_by-cons g x xs)
+sum_agree f g same xs = sum_agree_in f g xs (λ x there. same x)
 
 pub count_agree : {X : Type 0} (p q : X → Bool) → ((x : X) → p x ≡ q x) → (xs : List X) → count_by p xs ≡ count_by q xs
 count_agree p q same xs = sum_agree (λ x. cond (p x) 1 0) (λ x. cond (q x) 1 0) (λ x. ap (λ b. cond b 1 0) (same x)) xs
@@ -58,6 +59,11 @@ count_le p q (x ∷ xs) h = grind (arith, count_le p q xs (λ y there. h y (inr 
 pub count_split : {X : Type 0} (p q : X → Bool) (xs : List X) → count_by p xs ≡ count_by (λ x. p x && q x) xs + count_by (λ x. p x && not (q x)) xs
 count_split p q [] = refl
 count_split p q (x ∷ xs) = grind (arith, count_split p q xs, count_cons p x xs, count_cons (λ y. p y && q y) x xs, count_cons (λ y. p y && not (q y)) x xs)
+
+-- and before it
+pub count_before : {X : Type 0} (s p : X → Bool) (xs : List X) → count_by p xs ≡ count_by (λ x. s x && p x) xs + count_by (λ x. not (s x) && p x) xs
+count_before s p [] = refl
+count_before s p (x ∷ xs) = grind (arith, count_before s p xs, count_cons p x xs, count_cons (λ y. s y && p y) x xs, count_cons (λ y. not (s y) && p y) x xs)
 
 -- what passes either test, and what passes both
 pub count_either : {X : Type 0} (p q : X → Bool) (xs : List X) → count_by (λ x. p x || q x) xs + count_by (λ x. p x && q x) xs ≡ count_by p xs + count_by q xs
@@ -82,18 +88,16 @@ length_without [] y h = absurd h
 length_without (x ∷ xs) y (inl same) = omega arith
 length_without (x ∷ xs) y (inr there) = let rest = length_without xs y there in omega (arith, rest)
 
-count_without : {X : Type 0} (p : X → Bool) (xs : List X) (y : X) (h : IsIn y xs) → IsTrue (p y) → count_by p xs ≡ 1 + count_by p (without xs y h)
-count_without p [] y h passes = absurd h
-count_without p (x ∷ xs) y (inl same) passes =
-    sum_by-cons (λ x. cond (p x) 1 0) x xs ∙ ap (λ b. cond b 1 0 + count_by p xs) (ap p same ∙ passes)
-count_without p (x ∷ xs) y (inr there) passes = omega (arith, count_cons p x xs, count_cons p x (without xs y there), count_without p xs y there passes)
+-- a sum is that of the rest and the element's term
+pub sum_without : {X : Type 0} (f : X → ℕ) (xs : List X) (y : X) (h : IsIn y xs) → sum_by f xs ≡ f y + sum_by f (without xs y h)
+sum_without f [] y h = absurd h
+sum_without f (x ∷ xs) y (inl same) = sum_by-cons f x xs ∙ ap (λ z. f z + sum_by f xs) same
+sum_without f (x ∷ xs) y (inr there) = grind (arith, sum_without f xs y there, sum_by-cons)
 
 pub in_without : {X : Type 0} (xs : List X) (y : X) (h : IsIn y xs) (z : X) → IsIn z xs → (y ≡ z → ⊥) → IsIn z (without xs y h)
 in_without [] y h z at apart = absurd h
-in_without (x ∷ xs) y (inl same) z (inl here) apart = absurd (apart (sym same ∙ here))
-in_without (x ∷ xs) y (inl same) z (inr at) apart = at
-in_without (x ∷ xs) y (inr there) z (inl here) apart = inl here
-in_without (x ∷ xs) y (inr there) z (inr at) apart = inr (in_without xs y there z at apart)
+in_without (x ∷ xs) y (inl same) z at apart = grind arith
+in_without (x ∷ xs) y (inr there) z at apart = grind (arith, in_without xs y there z)
 
 -- f takes the elements that pass p to elements that pass q, no two to one
 pub record IsInjection {X Y : Type 0} (p : X → Bool) (xs : List X) (f : X → Y) (q : Y → Bool) (ys : List Y) : Type 0 where
@@ -110,14 +114,15 @@ count_into p (x ∷ xs) f q ys single into =
     ⊎_elim
     (
     λ yes. let at = into.lands x (inl refl) yes in
-    let less = count_without q ys (f x) at (into.passes x (inl refl) yes) in
+    let less = sum_without (λ y. cond (q y) 1 0) ys (f x) at in
+    let found = cond-true {A = ℕ} (q (f x)) 1 0 (into.passes x (inl refl) yes) in
     let rest = count_into p xs f q (without ys (f x) at) single.1 (record {
       lands = λ y there pass. in_without ys (f x) at (f y) (into.lands y (inr there) pass) (λ same. single.0 (subst (λ z. IsIn z xs) (sym (into.apart x y (inl refl) (inr there) yes pass same)) there));
       passes = λ y there. into.passes y (inr there);
       apart = λ y z there also. into.apart y z (inr there) (inr also);
     }) in
     let one = cond-true {A = ℕ} (p x) 1 0 yes in
-    omega (arith, whole, less, rest, one)
+    omega (arith, whole, less, found, rest, one)
     )
     (
     λ no. let rest = count_into p xs f q ys single.1 (record {
@@ -135,8 +140,7 @@ none_count p [] none = refl
 none_count p (x ∷ xs) none = grind (arith, none_count p xs (λ y there. none y (inr there)), sum_by-cons)
 
 pub one_count : {X : Type 0} (p : X → Bool) (xs : List X) (x : X) → IsIn x xs → IsTrue (p x) → 1 ≤ count_by p xs
-one_count p xs x there passes =
-    ⊎_elim (λ (none : count_by p xs ≡ 0). absurd (true≢false (sym passes ∙ count_none p xs none x there))) (λ some. omega (arith, some)) (cases_eq (count_by p xs) 0)
+one_count p xs x there passes = grind (arith, count_none)
 
 -- what passes both tests, and is in both lists, is counted in the second
 pub count_within : {X : Type 0} (p q : X → Bool) (xs ys : List X) → IsWithoutRepeats xs → ((x : X) → IsIn x xs → p x ≡ true → IsIn x ys × (q x ≡ true)) → count_by p xs ≤ count_by q ys
@@ -162,11 +166,7 @@ once v xs single = at_most_one (nat_eq v) v xs single (λ x there h. sym (eqb-tr
 
 -- the order of two sums
 pub sum_swap : {X Y : Type 0} (f : X → Y → ℕ) (xs : List X) (ys : List Y) → sum_by (λ x. sum_by (f x) ys) xs ≡ sum_by (λ y. sum_by (λ x. f x y) xs) ys
-sum_swap {Y = Y} f [] ys = sym (none ys)
-  where
-    none : (zs : List Y) → sum_by (λ z. 0) zs ≡ 0
-    none [] = refl
-    none (z ∷ zs) = let whole = sum_by-cons {X = Y} (λ z. 0) z zs in let rest = none zs in omega (arith, whole, rest)
+sum_swap f [] ys = sym (none_count (λ y. false) ys (λ y there. refl))
 sum_swap f (x ∷ xs) ys =
     let each = sum_agree (λ y. sum_by (λ z. f z y) (x ∷ xs)) (λ y. f x y + sum_by (λ z. f z y) xs) (λ y. sum_by-cons (λ z. f z y) x xs) ys in
     omega (arith, sum_by-cons (λ z. sum_by (f z) ys) x xs, sum_swap f xs ys, each, sum_add (f x) (λ y. sum_by (λ z. f z y) xs) ys)

@@ -1,6 +1,6 @@
 -- The rest of Manne's charge in a stable network: one for each node that is in no pair.
-use Rattle.machine_laws.proofs.ChargePrelude.{◌≡◌, ℕ, ◌+◌, ◌*◌, ◌≤◌, Bool, true, cond, not, ◌&&◌, ◌||◌, List, [], ◌∷◌, length, filter_map, count_by, sum_by, nat_lt, Option, None, Some, false, is_some, IsTrue, refl, sym, ap, ◌∙◌, arith, not_from_true, names, neighbours, edge_list, node_count, State, IsState, is_at, holds_at, pointer, points, flag, partner, married, has_suitor, manne_closed, manne_node_charge, manne_charge, IsStable, pair_above, mutual_pairs, partner_some, partner_from}
-use Rattle.machine_laws.proofs.ListCounts.{count_cons, count_not, IsIn, count_agree, sum_agree, sum_le, none_count}
+use Rattle.machine_laws.proofs.ChargePrelude.{◌≡◌, ℕ, ◌+◌, ◌*◌, ◌≤◌, Bool, true, cond, not, ◌&&◌, ◌||◌, List, [], ◌∷◌, length, filter_map, count_by, nat_lt, Option, None, Some, false, is_some, IsTrue, refl, sym, ap, ◌∙◌, arith, not_from_true, names, neighbours, edge_list, node_count, State, IsState, is_at, holds_at, pointer, points, flag, partner, married, has_suitor, manne_closed, manne_node_charge, manne_charge, IsStable, pair_above, mutual_pairs, partner_some, partner_from}
+use Rattle.machine_laws.proofs.ListCounts.{count_cons, count_not, count_agree, sum_agree, sum_agree_in, sum_le, none_count}
 use Rattle.machine_laws.proofs.Members.{names_present, names_len}
 use Rattle.machine_laws.proofs.EdgesByNodes.{edges_by_nodes}
 use Rattle.machine_laws.proofs.EdgesByNodes.{by_both}
@@ -8,10 +8,6 @@ use Rattle.machine_laws.proofs.ClosedByPointers.{target_counted}
 use Rattle.machine_laws.proofs.Stances.{married_is}
 use Rattle.machine_laws.proofs.StableCharge.{none_unanswered, an_end_paired}
 use Rattle.machine_laws.proofs.PaidMoves.{bit, IsSeen, seen}
-
--- sums of terms that agree on the list's elements
-sum_agree_in : {X : Type 0} (f g : X → ℕ) (xs : List X) → ((x : X) → IsIn x xs → f x ≡ g x) → sum_by f xs ≡ sum_by g xs
-sum_agree_in f g xs same = grind (arith, sum_le)
 
 -- the charge is the number of nodes that are not married
 pub manne_stable_leaves : (s : State) → IsState s → IsStable true s → manne_charge s ≡ count_by (λ v. not (married s v)) (names s.network)

@@ -1,5 +1,5 @@
 -- Events lead from valid states to valid states.
-use Rattle.machine_laws.proofs.Prelude.{none-some, ◌≡◌, ℕ, ◌+◌, ◌≤◌, Bool, false, List, map, set, [], ◌∷◌, length, fold, replicate, Option, None, Some, IsTrue, sym, ap, ◌∙◌, ⊎_elim, arith, get_or, AllByRecursion, length-set, length-map, length-replicate, get_or-replicate, get_or_past, get_or-set_same, get_or-set_other, get_or-map, true≢false, cases_lt, Act, Update, Abandon, Moved, Network, edge, linked, present, State, Registers, IsState, opening_with, is_at, pointer, pointer_of, flag_of, with_pointer, with_flag, married, after_link, after_unlink, after_point, after_flag, after_join, after_leave, without_pointer, without_name, unless_at, written, after_move, after_moves, IsMoveIn}
+use Rattle.machine_laws.proofs.Prelude.{none-some, ◌≡◌, ℕ, ◌+◌, ◌≤◌, Bool, false, List, map, set, [], ◌∷◌, length, fold, replicate, Option, None, Some, IsTrue, sym, ap, ◌∙◌, ⊎_elim, arith, get_or, AllByRecursion, length-set, length-map, length-replicate, get_or-replicate, get_or_past, get_or-set_same, get_or-set_other, get_or-map, true≢false, cases_lt, Act, Update, Abandon, Moved, Network, edge, linked, without_edge, present, State, Registers, IsState, opening_with, is_at, pointer, pointer_of, flag_of, with_pointer, with_flag, married, after_link, after_unlink, after_point, after_flag, after_join, after_leave, without_pointer, without_name, unless_at, written, after_move, after_moves, IsMoveIn}
 use Rattle.machine_laws.proofs.Edges.{edgeless_is_network, with_node_is_network, without_node_is_network, still_present, present_other, still_without, with_edge_is_network, without_edge_is_network, still_inserted, still_removed, edge_ends}
 use Rattle.machine_laws.proofs.Writes.{if_some_from, if_some_at, cleared, is_at_from_some, pointer-with_pointer_other, pointer_cases, flag_cases, without_pointer_was, without_pointer_gone, without_pointer_flags, without_pointer_len}
 
@@ -24,25 +24,32 @@ opening_is_state size count = record {
 pub link_keeps : (s : State) (a b : ℕ) → IsState s → IsTrue (present s.network a) → IsTrue (present s.network b) → (a ≡ b → ⊥) → IsState (after_link s a b)
 link_keeps s a b good has_a has_b apart = grind (arith, with_edge_is_network, if_some_from, still_inserted, if_some_at)
 
+-- a pointer that is left was there, and does not cross the edge
+pub unlinked_pointer : (s : State) (a b v x : ℕ) → pointer (after_unlink s a b) v ≡ Some x → (pointer s v ≡ Some x) × (v ≡ a → x ≡ b → ⊥) × (v ≡ b → x ≡ a → ⊥)
+unlinked_pointer s a b v x e =
+    let half = without_pointer s.registers a b in
+    let mid = without_pointer_was half b a v x e in (
+      without_pointer_was s.registers a b v x mid,
+      λ va xb. without_pointer_gone s.registers a b (ap (pointer_of half) (sym va) ∙ mid ∙ ap Some xb),
+      λ vb xa. without_pointer_gone half b a (ap (pointer (after_unlink s a b)) (sym vb) ∙ e ∙ ap Some xa),
+    )
+
+still_unlinked : (net : Network) (a b v x : ℕ) → (v ≡ a → x ≡ b → ⊥) → (v ≡ b → x ≡ a → ⊥) → IsTrue (linked net v x) → IsTrue (linked (without_edge net a b) v x)
+still_unlinked net a b v x there back h =
+    still_removed net.edges (edge a b) (edge v x) (λ same. ⊎_elim (λ p. there p.0 p.1) (λ p. back p.0 p.1) (edge_ends a b v x same)) h
+
 pub unlink_keeps : (s : State) (a b : ℕ) → IsState s → IsState (after_unlink s a b)
 unlink_keeps s a b good =
     let half = without_pointer s.registers a b in
-    let was : (v x : ℕ) → pointer (after_unlink s a b) v ≡ Some x → pointer_of half v ≡ Some x = λ v x e. without_pointer_was half b a v x e in
-    let not_a : (v x : ℕ) → pointer (after_unlink s a b) v ≡ Some x → v ≡ a → x ≡ b → ⊥ =
-    λ v x e va xb. without_pointer_gone s.registers a b (ap (pointer_of half) (sym va) ∙ was v x e ∙ ap Some xb)
-    in
-    let not_b : (v x : ℕ) → pointer (after_unlink s a b) v ≡ Some x → v ≡ b → x ≡ a → ⊥ =
-    λ v x e vb xa. without_pointer_gone half b a (ap (pointer_of (without_pointer half b a)) (sym vb) ∙ e ∙ ap Some xa)
-    in
+    let flags = without_pointer_flags half b a ∙ without_pointer_flags s.registers a b in
     record {
       is_network = without_edge_is_network s.network a b good.is_network;
       pointers_len = without_pointer_len half b a ∙ without_pointer_len s.registers a b ∙ good.pointers_len;
-      flags_len = ap length (without_pointer_flags half b a ∙ without_pointer_flags s.registers a b) ∙ good.flags_len;
+      flags_len = ap length flags ∙ good.flags_len;
       neighbourly = λ v. if_some_from _ _ (λ x e.
-          still_removed s.network.edges (edge a b) (edge v x)
-          (λ same. ⊎_elim (λ p. not_a v x e p.0 p.1) (λ p. not_b v x e p.0 p.1) (edge_ends a b v x same))
-          (if_some_at _ (λ w. IsTrue (linked s.network v w)) x (without_pointer_was s.registers a b v x (was v x e)) (good.neighbourly v)));
-      flagged_present = λ v h. good.flagged_present v (ap (λ l. get_or l v false) (sym (without_pointer_flags half b a ∙ without_pointer_flags s.registers a b)) ∙ h);
+          let left = unlinked_pointer s a b v x e in
+          still_unlinked s.network a b v x left.1 left.2 (if_some_at _ (λ w. IsTrue (linked s.network v w)) x left.0 (good.neighbourly v)));
+      flagged_present = λ v h. good.flagged_present v (ap (λ l. get_or l v false) (sym flags) ∙ h);
     }
 
 pub join_keeps : (s : State) (v : ℕ) → 1 ≤ v → IsState s → IsState (after_join s v)
