@@ -1,5 +1,5 @@
 -- What an event that is not refused guarantees, and that it leads to a state.
-use Rattle.machine_laws.proofs.Prelude.{nat_le, leb-true, ◌≡◌, ℕ, zero, suc, ◌<◌, Bool, true, false, cond, not, ◌&&◌, List, [], ◌∷◌, ◌++◌, length, Option, None, Some, IsTrue, nat_eq, nat_lt, refl, sym, ◌∙◌, subst, get_or, arith, list_any, option_or, cond-true, cond-false, true≢false, and_parts, or_parts, list_any-append, none-some, same_Some, Act, Item, Moved, Event, Link, Unlink, Point, Flag, Step, Join, Leave, Refusal, UnknownNode, NotNeighbour, NoFlag, BadTarget, present, linked, State, IsState, RuleTable, both_present, rule_refusal, item_refusal, items_refusal, step_refusal, refusal_of, outcome_by, wish_refusal, ap, outcome_at, outcome_of, move_in, item_of, accepted_state, state_by, state_after}
+use Rattle.machine_laws.proofs.ChargePrelude.Imports.{leb-true, ◌≡◌, ℕ, zero, suc, ◌<◌, Bool, true, false, cond, not, ◌&&◌, List, [], ◌∷◌, ◌++◌, length, Option, None, Some, IsTrue, nat_eq, nat_lt, refl, sym, ◌∙◌, get_or, arith, list_any, option_or, cond-true, cond-false, true≢false, and_parts, or_parts, list_any-append, none-some, same_Some, Act, Item, Moved, Event, Link, Unlink, Point, Flag, Step, Join, Leave, Refusal, UnknownNode, NoFlag, BadTarget, present, linked, State, IsState, RuleTable, both_present, rule_refusal, item_refusal, items_refusal, step_refusal, refusal_of, outcome_by, wish_refusal, ap, outcome_at, outcome_of, move_in, item_of, accepted_state, state_by, state_after, ◌≤◌}
 use Rattle.std.proofs.Common.{eq-eqb}
 use Rattle.rule_machine.specs.declared.verdict.Outcome.TheVariants as outcome
 use Rattle.machine_laws.proofs.StatePreservation.{link_keeps, unlink_keeps, point_keeps, flag_keeps, join_keeps, leave_keeps}
@@ -66,21 +66,23 @@ choice_from_none t s items e = grind (arith, cond_none, nat_lt)
 
 -- ---- the state after an event
 
+-- what an event that is not refused has
+pub link_parts : (t : RuleTable) (s : State) (a b : ℕ) → refusal_of t s (Link a b) ≡ None → IsTrue (present s.network a) × IsTrue (present s.network b) × (a ≡ b → ⊥) × (linked s.network a b ≡ false)
+link_parts t s a b e = grind (arith, cond_none, both_present, nat_eq, and_parts, true_from_not, true≢false, eq-eqb)
+
+pub point_parts : (t : RuleTable) (s : State) (v : ℕ) (target : Option ℕ) → refusal_of t s (Point v target) ≡ None → IsTrue (present s.network v) × ((x : ℕ) → target ≡ Some x → IsTrue (linked s.network v x))
+point_parts t s v target e = grind (arith, none_cond, none-some, cond_none, and_parts, true_from_not, same_Some)
+
+pub join_low : (t : RuleTable) (s : State) (v : ℕ) → refusal_of t s (Join v) ≡ None → 1 ≤ v
+join_low t s v e = grind (arith, cond_none, leb-true, and_parts, true_from_not)
+
 -- an event that is not refused leaves a state
 pub accepted_keeps : (t : RuleTable) → IsTable t → (s : State) → IsState s → (event : Event) → refusal_of t s event ≡ None → IsState (accepted_state t s event)
-accepted_keeps t table s good (Link a b) e = grind (arith, cond_none, and_parts, true_from_not, link_keeps, true≢false, eq-eqb)
+accepted_keeps t table s good (Link a b) e = let parts = link_parts t s a b e in link_keeps s a b good parts.0 parts.1 parts.2
 accepted_keeps t table s good (Unlink a b) e = unlink_keeps s a b good
-accepted_keeps t table s good (Point v None) e = point_keeps s v None good (λ x none. absurd (none-some x none))
-accepted_keeps t table s good (Point v (Some w)) e =
-    let first = cond_none (not (both_present s.network v w)) UnknownNode _ e in
-    let near = none_cond (linked s.network v w) NotNeighbour first.1 in
-    point_keeps s v (Some w) good (λ x same. subst (λ y. IsTrue (linked s.network v y)) (same_Some w x same) near)
-accepted_keeps t table s good (Flag v value) e =
-    let first = cond_none (not t.flags) NoFlag _ e in
-    flag_keeps s v value good (none_cond (present s.network v) UnknownNode first.1)
-accepted_keeps t table s good (Join v) e =
-    let first = cond_none (not (nat_le 1 v && nat_le v s.network.size)) UnknownNode _ e in
-    join_keeps s v (leb-true 1 v (and_parts (nat_le 1 v) (nat_le v s.network.size) (true_from_not (nat_le 1 v && nat_le v s.network.size) first.0)).0) good
+accepted_keeps t table s good (Point v target) e = point_keeps s v target good (point_parts t s v target e).1
+accepted_keeps t table s good (Flag v value) e = flag_keeps s v value good (none_cond (present s.network v) UnknownNode (cond_none (not t.flags) NoFlag _ e).1)
+accepted_keeps t table s good (Join v) e = join_keeps s v (join_low t s v e) good
 accepted_keeps t table s good (Leave v) e = leave_keeps s v good
 accepted_keeps t table s good (Step items) e = step_keeps t table s good items
 accepted_keeps t table s good event e = good

@@ -1,5 +1,5 @@
 -- Logs with bases, and runs that go on from a base.
-use Rattle.machine_laws.proofs.Prelude.{◌≡◌, ℕ, ◌+◌, true, false, List, [], ◌∷◌, ◌++◌, length, map, None, refl, sym, ap, ◌∙◌, ⊎_elim, arith, both_ways, list_any, eq_by_cmp, cases_Bool, true≢false, false_from_ne_true, ext_get_or, Network, pair_cmp, present, names, edge_list, State, IsState, pointer, flag, RuleTable, spent_after, Entry, Moment, Run, NodeRecord, node_record_at, node_records, base_of, LogPart, EntryPart, BasePart, NumberedMoment, Passes, entries_in}
+use Rattle.machine_laws.proofs.ChargePrelude.Imports.{◌≡◌, ℕ, ◌+◌, true, false, List, [], ◌∷◌, ◌++◌, length, map, None, refl, sym, ap, ◌∙◌, ⊎_elim, arith, both_ways, list_any, eq_by_cmp, cases_Bool, true≢false, false_from_ne_true, ext_get_or, Network, pair_cmp, present, names, edge_list, State, IsState, pointer, flag, RuleTable, spent_after, Entry, Moment, Run, NodeRecord, node_record_at, node_records, base_of, LogPart, EntryPart, BasePart, NumberedMoment, Passes, entries_in}
 use Rattle.std.specs.FinMap as finmap
 use Rattle.machine_laws.proofs.Edges.{pair_total, pair_exact}
 use Rattle.machine_laws.proofs.Leaves.{unit_some}

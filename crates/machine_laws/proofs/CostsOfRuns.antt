@@ -1,7 +1,7 @@
 -- The moves of a run with disturbances are at most the charge at its start plus the costs of the
 -- disturbances.
-use Rattle.machine_laws.proofs.ChargePrelude.{◌≡◌, ℕ, ◌+◌, ◌*◌, ◌≤◌, true, false, List, [], ◌∷◌, length, map, nat_eq, Option, None, Some, IsTrue, ap, ap₂, ◌∙◌, ⊎_elim, arith, leb-true, true≢false, and_parts, same_Some, none-some, sum_by-cons, Event, Link, Unlink, Point, Flag, Join, Leave, UnknownNode, Reply, Accepted, node_count, present, linked, State, IsState, pointer, partner, is_unanswered, RuleTable, hsu_huang, manne, both_present, refusal_of, IsStable, mutual_pairs, Does, Answers, spent_after, Entry, Moment, Run, cond_none, none_cond, true_from_not, IsTable, answers_keep, runs_end_in_states, option_cases, pointer_linked, partner_some, after_leave, IsCharged, IsUndisturbed, moves_of, moves_in, IsPath, hsu_huang_cost, manne_leave_cost, manne_cost, answer_cost, path_cost, end_of_path, path_entries}
-use Rattle.std.proofs.Common.{eq-eqb}
+use Rattle.machine_laws.proofs.ChargePrelude.{◌≡◌, ℕ, ◌+◌, ◌*◌, ◌≤◌, true, false, List, [], ◌∷◌, length, map, None, IsTrue, ap, ap₂, ◌∙◌, arith, sum_by-cons, Event, Link, Unlink, Point, Flag, Join, Leave, UnknownNode, Reply, Accepted, node_count, present, linked, State, IsState, pointer, partner, is_unanswered, RuleTable, hsu_huang, manne, refusal_of, IsStable, mutual_pairs, Does, Answers, spent_after, Entry, Moment, Run, cond_none, none_cond, IsTable, answers_keep, runs_end_in_states, pointer_linked, partner_some, after_leave, IsCharged, IsUndisturbed, moves_of, moves_in, IsPath, hsu_huang_cost, manne_leave_cost, manne_cost, answer_cost, path_cost, end_of_path, path_entries, refl, Option, Some}
+pub use Rattle.machine_laws.proofs.AcceptedEvents.{link_parts, point_parts, join_low}
 use Rattle.machine_laws.proofs.ChargesOfRuns.{answer_lowers}
 use Rattle.machine_laws.proofs.Tables.{hsu_huang_table, manne_table}
 use Rattle.machine_laws.proofs.Laws.{hsu_huang_charged, manne_charged, moves_are_paid}
@@ -9,23 +9,13 @@ use Rattle.machine_laws.proofs.StableCharge.{hsu_huang_stable_is_zero}
 use Rattle.machine_laws.proofs.HsuHuangCosts.{link_costs, join_costs, point_costs, unlink_costs, leave_costs}
 use Rattle.machine_laws.proofs.ManneCosts as of_manne
 use Rattle.machine_laws.proofs.ManneStableCharge.{unmarried_charge, married_are_pairs, manne_stable_charge}
-use Rattle.machine_laws.proofs.DegreesLeft.{degree_without_node}
+use Rattle.machine_laws.proofs.Disturbed.{degree_without_node}
 use Rattle.machine_laws.proofs.Stances.{is_waiting, unanswered_is, paired_from}
 
 -- each accepted disturbance adds at most its cost to the charge
 abbrev pub IsCosted : RuleTable → (State → Event → ℕ) → Type 0
 IsCosted t cost =
     (s : State) → IsState s → (n : ℕ) (event : Event) (s' : State) → refusal_of t s event ≡ None → Does t s n event Accepted s' → t.charge s' ≤ t.charge s + cost s event
-
--- what an event that is not refused has
-pub link_parts : (t : RuleTable) (s : State) (a b : ℕ) → refusal_of t s (Link a b) ≡ None → IsTrue (present s.network a) × IsTrue (present s.network b) × (a ≡ b → ⊥) × (linked s.network a b ≡ false)
-link_parts t s a b e = grind (arith, cond_none, both_present, nat_eq, and_parts, true_from_not, true≢false, eq-eqb)
-
-pub point_parts : (t : RuleTable) (s : State) (v : ℕ) (target : Option ℕ) → refusal_of t s (Point v target) ≡ None → IsTrue (present s.network v) × ((x : ℕ) → target ≡ Some x → IsTrue (linked s.network v x))
-point_parts t s v target e = grind (arith, none_cond, none-some, cond_none, and_parts, true_from_not, same_Some)
-
-pub join_low : (t : RuleTable) (s : State) (v : ℕ) → refusal_of t s (Join v) ≡ None → 1 ≤ v
-join_low t s v e = grind (arith, cond_none, leb-true, and_parts, true_from_not)
 
 -- a name that joins was not there
 join_absent : (t : RuleTable) (s : State) (v : ℕ) → refusal_of t s (Join v) ≡ None → present s.network v ≡ false
@@ -78,17 +68,15 @@ hsu_huang_stable_costs start good stable path is = grind (arith, hsu_huang_path_
 
 -- the edges that a node which leaves may open at its partner, by its pointer
 parted_within : (s : State) (v : ℕ) → IsState s → IsTrue (present s.network v) → of_manne.parted_cost (after_leave s v).network (partner s v) ≤ manne_leave_cost s.network (is_unanswered s v) (pointer s v)
-parted_within s v good has =
-    ⊎_elim
-    (λ (single : partner s v ≡ None). let none = ap (of_manne.parted_cost (after_leave s v).network) single in omega (arith, none))
-    (λ pair.
-    let both = partner_some s v pair.0 pair.1 in
-    let answered = unanswered_is s v ∙ ap is_waiting (paired_from (pointer s) v pair.0 both.0 both.1) in
-    let told = ap (of_manne.parted_cost (after_leave s v).network) pair.1 in
-    let cost = ap₂ (manne_leave_cost s.network) answered both.0 in
-    let left = degree_without_node s v pair.0 good has (pointer_linked s v pair.0 good both.0) in
-    omega (arith, told, cost, left))
-    (option_cases (partner s v))
+parted_within s v good has = by (partner s v) refl
+  where
+    by : (o : Option ℕ) → partner s v ≡ o → of_manne.parted_cost (after_leave s v).network o ≤ manne_leave_cost s.network (is_unanswered s v) (pointer s v)
+    by None single = omega arith
+    by (Some u) pair =
+        let both = partner_some s v u pair in
+        let answered = unanswered_is s v ∙ ap is_waiting (paired_from (pointer s) v u both.0 both.1) in
+        let cost = ap₂ (manne_leave_cost s.network) answered both.0 in
+        omega (arith, cost, degree_without_node s v u good has (pointer_linked s v u good both.0))
 
 pub manne_costed : IsCosted manne manne_cost
 manne_costed s good n (Link a b) s' e does = let parts = link_parts manne s a b e in rw does (of_manne.link_costs s a b good parts.0 parts.1 parts.2)

@@ -1,5 +1,5 @@
 -- The state after an event is determined by its reply.
-use Rattle.machine_laws.proofs.Prelude.{◌≡◌, ℕ, Option, Event, Refusal, Reply, State, RuleTable, refusal_of, AnswersBy, Answers, arith}
+use Rattle.machine_laws.proofs.ChargePrelude.Imports.{◌≡◌, ℕ, Option, Event, Refusal, Reply, State, RuleTable, refusal_of, AnswersBy, Answers, arith}
 
 answers_by_once : (t : RuleTable) (s : State) (n : ℕ) (event : Event) (refusal : Option Refusal) (reply : Reply) (u v : State) → AnswersBy t s n event refusal reply u → AnswersBy t s n event refusal reply v → u ≡ v
 answers_by_once t s n event refusal reply u v x y = grind arith

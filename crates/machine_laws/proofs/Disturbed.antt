@@ -1,13 +1,13 @@
 -- What a disturbance leaves of a state, and how far that raises the charge: the part that is the same under
 -- all rules.
-use Rattle.machine_laws.proofs.ChargePrelude.{◌≡◌, ◌≢◌, ℕ, ◌+◌, ◌*◌, ◌<◌, ◌≤◌, Bool, true, false, cond, not, ◌&&◌, ◌||◌, List, [], ◌∷◌, map, count_by, sum_by, nat_eq, Option, None, Some, IsTrue, refl, sym, ap, ◌∙◌, subst, inl, inr, ⊎_elim, ◌⊎◌, arith, cases_eq, true≢false, sum_by-cons, get_or-map, cond-false, ne_eqb, Network, IsNetwork, is_at, degree, degree_at, edge, is_end, present, names, edge_list, State, IsState, Registers, pointer, is_unanswered, holds_at, points, after_link, after_join, after_point, after_unlink, after_leave, min, max, inserted_cases, unless_at, removed_was, left_was, present_other, pointer-with_pointer_other, pointer-with_pointer_same, without_pointer_stays, left_pointer, unlinked_pointer, present_range, nothing_left, none-some, false_from_ne_true, unlink_keeps}
-use Rattle.machine_laws.proofs.ListCounts.{sum_without, count_or, IsIn, IsWithoutRepeats, without, in_without, count_agree, none_count, once}
+use Rattle.machine_laws.proofs.ChargePrelude.{◌≡◌, ◌≢◌, ℕ, ◌+◌, ◌*◌, ◌<◌, ◌≤◌, Bool, true, false, cond, not, ◌&&◌, ◌||◌, List, [], ◌∷◌, map, count_by, sum_by, nat_eq, Option, None, Some, IsTrue, refl, sym, ap, ◌∙◌, subst, inl, inr, ⊎_elim, ◌⊎◌, arith, cases_eq, true≢false, sum_by-cons, get_or-map, cond-false, ne_eqb, Network, IsNetwork, is_at, degree, degree_at, edge, is_end, present, names, edge_list, State, IsState, Registers, pointer, is_unanswered, holds_at, points, after_link, after_join, after_point, after_unlink, after_leave, min, max, inserted_cases, unless_at, removed_was, left_was, present_other, pointer-with_pointer_other, pointer-with_pointer_same, without_pointer_stays, left_pointer, unlinked_pointer, present_range, nothing_left, none-some, false_from_ne_true, unlink_keeps, ◌-◌, linked_apart, linked, linked_back, pointer_linked, leave_keeps}
+use Rattle.machine_laws.proofs.ListCounts.{sum_without, count_or, IsIn, IsWithoutRepeats, without, in_without, count_agree, none_count, once, count_within}
 use Rattle.std.specs.FinMap as finmap
 use Rattle.machine_laws.proofs.EdgeChanges.{taken_out}
 use Rattle.machine_laws.proofs.Members.{in_names, names_present, in_edges, edges_contain, names_without_repeats}
 use Rattle.machine_laws.proofs.EdgesByNodes.{edges_without_repeats}
 use Rattle.machine_laws.proofs.Stances.{stance, is_waiting, waiting_from, waiting_is, unanswered_is}
-use Rattle.machine_laws.proofs.Degrees.{edges_at}
+use Rattle.machine_laws.proofs.Degrees.{edges_at, at_one}
 use Rattle.machine_laws.proofs.PaidMoves.{bit, IsSeen}
 
 -- ---- the charge
@@ -226,3 +226,38 @@ module _ (s : State) (v : ℕ) where
     edges = λ e there. in_edges s.network e (left_was s.network.edges v e.0 e.1 (edges_contain (after_leave s v).network e there)).2;
     nodes = λ x there. in_names s.network x (⊎_elim (λ same. subst (λ y. IsTrue (present s.network y)) (sym same) has) (λ apart. sym (present_other s.network v false x apart) ∙ names_present (after_leave s v).network x there) (cases_eq x v));
   }
+
+-- ---- the edges that are left at a node
+
+-- a node has fewer edges if none of those that are left joins it to a neighbour
+degree_falls : (s s' : State) (v u : ℕ) → IsState s → IsState s' → IsSubNetwork s.network s'.network → IsTrue (linked s.network v u) → ((a b : ℕ) → IsIn (a, b) (edge_list s'.network) → (is_end v (a, b) && not (is_end u (a, b))) ≡ is_end v (a, b)) → degree s'.network v ≤ degree s.network v - 1
+degree_falls s s' v u good good' within near apart =
+    let into = count_within (is_end v) (λ e. is_end v e && not (is_end u e)) (edge_list s'.network) (edge_list s.network) (edges_without_repeats s'.network) (λ e there h. (within.edges e there, apart e.0 e.1 there ∙ h)) in
+    omega (arith, edges_at s'.network good'.is_network v, into, at_one s.network good.is_network v u near, edges_at s.network good.is_network v)
+
+alone : (a b x y : ℕ) → (a ≡ b → ⊥) → ((nat_eq x a && nat_eq y b) || (nat_eq x b && nat_eq y a)) ≡ false → (is_end a (x, y) && not (is_end b (x, y))) ≡ is_end a (x, y)
+alone a b x y apart h = grind arith
+
+-- each end of a removed edge has one edge less
+pub degree_without_edge : (s : State) (a b : ℕ) → IsState s → IsTrue (linked s.network a b) → (degree (after_unlink s a b).network a ≤ degree s.network a - 1) × (degree (after_unlink s a b).network b ≤ degree s.network b - 1)
+degree_without_edge s a b good near =
+    let apart = linked_apart s.network a b good.is_network near in (
+      degree_falls s (after_unlink s a b) a b good (unlink_keeps s a b good) (unlink_within s a b) near (λ x y there. alone a b x y apart (uncrossed s a b x y good there)),
+      degree_falls s (after_unlink s a b) b a good (unlink_keeps s a b good) (unlink_within s a b) (linked_back s.network b a ∙ near) (λ x y there. alone b a x y (λ same. apart (sym same)) (swap (nat_eq x a && nat_eq y b) (nat_eq x b && nat_eq y a) (uncrossed s a b x y good there))),
+    )
+  where
+    swap : (c d : Bool) → (c || d) ≡ false → (d || c) ≡ false
+    swap c d h = grind arith
+
+-- each neighbour of a node that leaves has one edge less
+pub degree_without_node : (s : State) (v u : ℕ) → IsState s → IsTrue (present s.network v) → IsTrue (linked s.network v u) → degree (after_leave s v).network u ≤ degree s.network u - 1
+degree_without_node s v u good has near =
+    degree_falls s (after_leave s v) u v good (leave_keeps s v good) (leave_within s v good has) (linked_back s.network u v ∙ near)
+    (λ x y there. let left = left_was s.network.edges v x y (edges_contain (after_leave s v).network (x, y) there) in apart x y left.0 left.1)
+  where
+    apart : (x y : ℕ) → (x ≡ v → ⊥) → (y ≡ v → ⊥) → (is_end u (x, y) && not (is_end v (x, y))) ≡ is_end u (x, y)
+    apart x y low high = grind arith
+
+-- the target of a node that leaves has one edge less
+pub degree_left_at : (s : State) (v : ℕ) → IsState s → IsTrue (present s.network v) → degree_at (after_leave s v).network (pointer s v) ≤ degree_at s.network (pointer s v) - 1
+degree_left_at s v good has = grind (arith, degree_without_node, pointer_linked)

@@ -1,6 +1,7 @@
 -- Which edges and nodes a network has after an edge or a node is added or removed.
-use Rattle.machine_laws.proofs.Prelude.{[], ◌∷◌, List, ◌≡◌, ℕ, ◌≤◌, nat_le, leb-true, get_or, min, max, Bool, false, cond, not, ◌&&◌, ◌||◌, Option, None, Some, is_some, IsTrue, refl, sym, ap, ◌∙◌, ◌⊎◌, arith, set, nat_cmp, eq_by_cmp, IsTotalOrder, nat_cmp_total, on_total, then_total, CmpEqualImpliesEq, exact_pairs, exact_unsigned, tells_apart, length-map-range_with_len, get_or-map-range_with_len, get_or-set_same, get_or-set_other, length-set, cases_Bool, cases_eq, eqb-true, eq-eqb, or_left, or_cases, or_right, and_parts, and_from, true≢false, cases_lt, Network, PairSet, IsNetwork, pair_cmp, edge, linked, present, is_end, edgeless_with, with_edge, without_edge, with_node, without_node}
+use Rattle.machine_laws.proofs.ChargePrelude.Imports.{◌≡◌, ℕ, ◌≤◌, nat_le, leb-true, min, max, Bool, false, not, ◌&&◌, ◌||◌, is_some, IsTrue, sym, ap, ◌∙◌, ◌⊎◌, arith, set, nat_cmp, eq_by_cmp, IsTotalOrder, nat_cmp_total, on_total, then_total, CmpEqualImpliesEq, exact_pairs, exact_unsigned, tells_apart, length-map-range_with_len, get_or-map-range_with_len, get_or-set_same, get_or-set_other, length-set, cases_Bool, cases_eq, eqb-true, eq-eqb, or_left, or_cases, or_right, and_parts, and_from, true≢false, cases_lt, Network, PairSet, IsNetwork, pair_cmp, edge, linked, present, is_end, edgeless_with, with_edge, without_edge, with_node, without_node}
 use Rattle.std.specs.FinMap as map
+use Rattle.machine_laws.proofs.Writes.{cleared}
 
 pub pair_total : IsTotalOrder pair_cmp
 pair_total = then_total (on_total (λ (p : ℕ × ℕ). p.0) nat_cmp_total) (on_total (λ (p : ℕ × ℕ). p.1) nat_cmp_total)
@@ -9,17 +10,11 @@ pair_total = then_total (on_total (λ (p : ℕ × ℕ). p.0) nat_cmp_total) (on_
 pub pair_exact : CmpEqualImpliesEq pair_cmp
 pair_exact = exact_pairs nat_cmp nat_cmp exact_unsigned exact_unsigned
 
-some_or : (b : Bool) (x : Option (Unit {0})) → is_some (cond b (Some tt) x) ≡ (b || is_some x)
-some_or b x = grind arith
-
-none_and : (b : Bool) (x : Option (Unit {0})) → is_some (cond b None x) ≡ (not b && is_some x)
-none_and b x = grind arith
-
 pub contains-insert : (m : PairSet) (k q : ℕ × ℕ) → map.contains_key (map.insert m k tt) q ≡ (eq_by_cmp pair_cmp q k || map.contains_key m q)
-contains-insert m k q = ap is_some (map.get-insert pair_total m k tt q) ∙ some_or (eq_by_cmp pair_cmp q k) (map.get m q)
+contains-insert m k q = grind (arith, map.get-insert pair_total m k tt q)
 
 pub contains-remove : (m : PairSet) (k q : ℕ × ℕ) → map.contains_key (map.remove m k) q ≡ (not (eq_by_cmp pair_cmp q k) && map.contains_key m q)
-contains-remove m k q = ap is_some (map.get-remove pair_total m k q) ∙ none_and (eq_by_cmp pair_cmp q k) (map.get m q)
+contains-remove m k q = grind (arith, map.get-remove pair_total m k q)
 
 pub contains-empty : (q : ℕ × ℕ) → map.contains_key (map.empty {K = ℕ × ℕ} {X = Unit {0}} {R = pair_cmp}) q ≡ false
 contains-empty q = ap is_some (map.get-empty pair_cmp q)
@@ -73,23 +68,15 @@ still_present net v w good has = grind (arith, and_parts, leb-true, and_from, ge
 pub with_node_is_network : (net : Network) (v : ℕ) → 1 ≤ v → IsNetwork net → IsNetwork (with_node net v)
 with_node_is_network net v low good = grind (arith, length-set, get_or-set_other, still_present)
 
-some_kept : (b : Bool) (x : Option (Unit {0})) → is_some (cond b x None) ≡ (b && is_some x)
-some_kept b x = grind arith
-
 pub contains-without : (m : PairSet) (v : ℕ) (q : ℕ × ℕ) → map.contains_key (map.retain_keys m (λ e. not (is_end v e))) q ≡ (not (is_end v q) && map.contains_key m q)
-contains-without m v q =
-    ap is_some (map.get-retain_keys m (λ e. not (is_end v e)) q (λ x same. ap (λ e. not (is_end v e)) (sym (pair_exact q x same)))) ∙ some_kept (not (is_end v q)) (map.get m q)
+contains-without m v q = grind (arith, map.get-retain_keys m (λ e. not (is_end v e)) q (λ x same. ap (λ e. not (is_end v e)) (sym (pair_exact q x same))))
 
 -- a pair that is left was there, and neither end is the name
 pub left_was : (m : PairSet) (v : ℕ) (a b : ℕ) → IsTrue (map.contains_key (map.retain_keys m (λ e. not (is_end v e))) (a, b)) → (a ≡ v → ⊥) × (b ≡ v → ⊥) × IsTrue (map.contains_key m (a, b))
 left_was m v a b h = grind (arith, and_parts, contains-without, true≢false, or_left, eq-eqb, or_right)
 
-gone : (row : List Bool) (v : ℕ) → 0 ≡ v → get_or (set row v false) 0 false ≡ false
-gone [] v same = refl
-gone (b ∷ row) v same = ap (λ x. get_or (set (b ∷ row) x false) 0 false) (sym same)
-
 pub without_node_is_network : (net : Network) (v : ℕ) → IsNetwork net → IsNetwork (without_node net v)
-without_node_is_network net v good = grind (arith, length-set, gone, get_or-set_other, cases_eq, left_was, present_other)
+without_node_is_network net v good = grind (arith, length-set, cleared, get_or-set_other, cases_eq, left_was, present_other)
 
 -- an edge of two other nodes is left
 pub still_without : (net : Network) (v a b : ℕ) → (a ≡ v → ⊥) → (b ≡ v → ⊥) → IsTrue (linked net a b) → IsTrue (linked (without_node net v) a b)

@@ -1,5 +1,5 @@
 -- When no node is enabled.
-use Rattle.machine_laws.proofs.Prelude.{◌≡◌, ℕ, Bool, false, [], None, is_some, find, IsTrue, Act, names, present, State, RuleTable, acts, rule_at, enabled_names, arith}
+use Rattle.machine_laws.proofs.ChargePrelude.Imports.{◌≡◌, ℕ, Bool, false, [], None, is_some, find, IsTrue, Act, names, present, State, RuleTable, acts, rule_at, enabled_names, arith}
 use Rattle.machine_laws.proofs.Search.{cond-none, find_from_empty, empty_from_find}
 use Rattle.machine_laws.proofs.Neighbours.{names_none, names_fails}
 use Rattle.machine_laws.proofs.Pointers.{none_is}

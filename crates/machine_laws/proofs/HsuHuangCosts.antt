@@ -5,7 +5,7 @@ use Rattle.machine_laws.proofs.Members.{edges_contain}
 use Rattle.machine_laws.proofs.EdgesByNodes.{zeros}
 use Rattle.machine_laws.proofs.Stances.{unanswered_alone}
 use Rattle.machine_laws.proofs.Degrees.{edges_at, at_linked, at_one, one_between}
-use Rattle.machine_laws.proofs.DegreesLeft.{degree_without_edge, degree_left_at}
+use Rattle.machine_laws.proofs.Disturbed.{degree_without_edge, degree_left_at}
 use Rattle.machine_laws.proofs.PaidMoves.{IsSeen, seen}
 use Rattle.machine_laws.proofs.Disturbed.{IsSubNetwork, same_network, WaitsOnly, grows, no_nodes, no_edges, one_node, two_nodes, IsTouching, still_married, IsWritten, written_at, waiting_touches, waiting_waits, some_touches, some_waits, null_touches, null_waits, again, same_touches, same_waits, linked_edges, joined_names, cut_touches, across, unlink_cuts, unlink_waits, unlink_within, beside, leave_cuts, leave_waits, leave_within, edges_if, edges_at_pointer}
 

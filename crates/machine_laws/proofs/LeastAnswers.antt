@@ -1,5 +1,5 @@
 -- The answer with the least targets is one that the machine may give.
-use Rattle.machine_laws.proofs.Prelude.{◌≡◌, ◌≢◌, ℕ, ◌<◌, Bool, true, false, cond, List, [], ◌∷◌, length, map, filter, All, Any, Contains, Option, None, Some, IsSome, IsSomeAnd, IsTrue, is_some, nat_eq, refl, sym, ap, ◌∙◌, subst, find, filter_map, option_and_then, get_or, arith, lt-ltb, cons_option, range_with_len, IsStrictlyIncreasing, cases_Bool, cond-true, cond-false, true≢false, and_from, length-map, All-from_recursion, All-weaker, All-map, length-range_with_len, get_or-range_with_len, IsStrictlyIncreasing-filter, none-some, same_Some, cond_some, option_and_then_some, Act, Item, Moved, Event, Refusal, Network, names, present, State, IsState, RuleTable, rule_at, IsAllowedTarget, IsTarget, IsMoveOf, IsStep, after_moves, refusal_of, Does, AnswersBy, Answers, outcome_of, move_in, least_moves, accepted_reply, accepted_state, reply_by, state_by, reply_of, state_after, target_by, takes_target}
+use Rattle.machine_laws.proofs.ChargePrelude.Imports.{◌≡◌, ◌≢◌, ℕ, ◌<◌, Bool, true, false, cond, List, [], ◌∷◌, length, map, filter, All, Any, Contains, Option, None, Some, IsSome, IsSomeAnd, IsTrue, is_some, nat_eq, refl, sym, ap, ◌∙◌, subst, find, filter_map, option_and_then, get_or, arith, lt-ltb, cons_option, range_with_len, IsStrictlyIncreasing, cases_Bool, cond-true, cond-false, true≢false, and_from, length-map, All-from_recursion, All-weaker, All-map, length-range_with_len, get_or-range_with_len, IsStrictlyIncreasing-filter, none-some, same_Some, cond_some, option_and_then_some, Act, Item, Moved, Event, Refusal, Network, names, present, State, IsState, RuleTable, rule_at, IsAllowedTarget, IsTarget, IsMoveOf, IsStep, after_moves, refusal_of, Does, AnswersBy, Answers, outcome_of, move_in, least_moves, accepted_reply, accepted_state, reply_by, state_by, reply_of, state_after, target_by, takes_target}
 use Rattle.std.proofs.Common.{eqb-true}
 pub use Rattle.machine_laws.proofs.Pairs.{filter_map_contains, names_contains}
 use Rattle.machine_laws.proofs.Pairs.{contains_first, contains_rest}

@@ -1,5 +1,5 @@
 -- The moves with the least targets; they lead to a state.
-use Rattle.machine_laws.proofs.Prelude.{◌≡◌, ℕ, Bool, true, cond, List, [], ◌∷◌, Option, Some, IsTrue, sym, subst, find, filter_map, option_and_then, AllByRecursion, cons_option, cases_Bool, cond-true, cond-false, none-some, same_Some, cond_some, option_and_then_some, Act, Item, Moved, linked, present, names, State, IsState, RuleTable, rule_at, after_moves, outcome_by, outcome_at, outcome_of, move_in, item_of, least_moves, target_by, IsMoveIn, arith}
+use Rattle.machine_laws.proofs.ChargePrelude.Imports.{◌≡◌, ℕ, Bool, true, List, [], ◌∷◌, Option, Some, IsTrue, sym, subst, find, filter_map, option_and_then, AllByRecursion, cons_option, cases_Bool, cond-true, cond-false, none-some, same_Some, cond_some, option_and_then_some, Act, Item, Moved, linked, present, names, State, IsState, RuleTable, rule_at, after_moves, outcome_by, outcome_at, outcome_of, move_in, item_of, least_moves, target_by, IsMoveIn, arith}
 use Rattle.rule_machine.specs.declared.verdict.Outcome.TheVariants as outcome
 pub use Rattle.rule_machine.specs.Table.{IsTable}
 use Rattle.machine_laws.proofs.StatePreservation.{moves_keep}
@@ -25,11 +25,8 @@ pub record Makes (t : RuleTable) (s : State) (item : Item) (m : Moved) : Type 0 
   pub rule : rule_at t s item.node ≡ Some m.act
   pub target : target_by t s item.node item.wish m.act ≡ Some m.target
 
-makes_by_allowed : (t : RuleTable) (s : State) (item : Item) (act : Act) (w : ℕ) (m : Moved) (b : Bool) → t.allowed s item.node act w ≡ b → IsTrue (present s.network item.node) → rule_at t s item.node ≡ Some act → item.wish ≡ Some w → move_in (cond b (outcome.Moves (record { node = item.node; act = act; target = Some w })) outcome.Wrong) ≡ Some m → Makes t s item m
-makes_by_allowed t s item act w m x allowed has rule wish e = grind (arith, same_Some, cond-true, none-some)
-
 makes_by_wish : (t : RuleTable) (s : State) (item : Item) (act : Act) (m : Moved) (wish : Option ℕ) → item.wish ≡ wish → IsTrue (present s.network item.node) → rule_at t s item.node ≡ Some act → move_in (outcome_by t s item.node act wish) ≡ Some m → Makes t s item m
-makes_by_wish t s item act m x wish has rule e = grind (arith, same_Some, makes_by_allowed)
+makes_by_wish t s item act m x wish has rule e = grind (arith, same_Some, cond-true, none-some)
 
 makes_by_rule : (t : RuleTable) (s : State) (item : Item) (m : Moved) (r : Option Act) → rule_at t s item.node ≡ r → IsTrue (present s.network item.node) → move_in (outcome_at t s item r) ≡ Some m → Makes t s item m
 makes_by_rule t s item m x rule has e = grind (arith, none-some, makes_by_wish)

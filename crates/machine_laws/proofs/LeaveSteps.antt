@@ -1,6 +1,6 @@
 -- The steps by which a node leaves: its edges are removed one at a time, then its flag is cleared, then its
 -- name is freed.
-use Rattle.machine_laws.proofs.Prelude.{◌≡◌, ◌≢◌, ℕ, ◌-◌, ◌<◌, true, false, cond, List, [], length, map as map_list, get_or, min, max, set, find, IsTrue, refl, sym, ap, ◌∙◌, subst, ⊎_elim, arith, cases_eq, cases_lt, false_from_ne_true, true≢false, get_or-set_same, get_or-set_other, get_or_past, get_or-map, ext_get_or, length-set, length-map, set-set, tells_apart, Option, None, Some, Network, PairSet, IsNetwork, linked, neighbours, edge, edge_count, without_edge, without_node, State, Registers, IsState, is_at, is_end, pointer, pointer_of, flag_of, with_flag, after_unlink, after_flag, after_leave, without_pointer, without_name, unless_at}
+use Rattle.machine_laws.proofs.ChargePrelude.Imports.{◌≡◌, ◌≢◌, ℕ, ◌-◌, ◌<◌, true, false, cond, List, [], length, map as map_list, get_or, min, max, set, find, IsTrue, refl, sym, ap, ◌∙◌, subst, ⊎_elim, arith, cases_eq, false_from_ne_true, true≢false, get_or-set_other, get_or-map, ext_get_or, length-set, length-map, set-set, tells_apart, Option, None, Some, Network, PairSet, IsNetwork, linked, neighbours, edge, edge_count, without_edge, without_node, State, Registers, IsState, is_at, is_end, pointer, pointer_of, flag_of, with_flag, after_unlink, after_flag, after_leave, without_pointer, without_name, unless_at}
 use Rattle.std.specs.FinMap as map
 use Rattle.machine_laws.proofs.Edges.{pair_total, pair_exact, contains-empty, contains-remove, contains-without, present_other, without_node_is_network}
 use Rattle.machine_laws.proofs.Neighbours.{near_none, linked_back, linked_pair}
@@ -22,7 +22,7 @@ left_pointers : (r : Registers) (v : ℕ) (ps : List (Option ℕ)) → length ps
 left_pointers r v ps len null others =
     ext_get_or None _ _ (length-set (map_list (unless_at v) r.pointers) v None ∙ length-map r.pointers (unless_at v) ∙ sym len)
     (λ x inside. ⊎_elim
-    (λ same. ap (λ z. get_or (without_name r v).pointers z None) same ∙ cleared (map_list (unless_at v) r.pointers) v ∙ sym (ap (λ z. get_or ps z None) same ∙ null))
+    (λ same. ap (λ z. get_or (without_name r v).pointers z None) same ∙ cleared (map_list (unless_at v) r.pointers) v None ∙ sym (ap (λ z. get_or ps z None) same ∙ null))
     (λ apart. get_or-set_other (map_list (unless_at v) r.pointers) v x None None apart ∙ get_or-map (unless_at v) r.pointers x None ∙ others x apart)
     (cases_eq x v))
 
@@ -53,7 +53,7 @@ leave_after_unlink s v w good = λ i. record {
         ∙ sym (get_or-set_other (map_list (unless_at v) s.registers.pointers) v x None None apart ∙ get_or-map (unless_at v) s.registers.pointers x None)
 
     pointers : (without_name u.registers v).pointers ≡ (without_name s.registers v).pointers
-    pointers = left_pointers u.registers v (without_name s.registers v).pointers (length-set (map_list (unless_at v) s.registers.pointers) v None ∙ length-map s.registers.pointers (unless_at v) ∙ sym (without_pointer_len (without_pointer s.registers v w) w v ∙ without_pointer_len s.registers v w)) (cleared _ v) others
+    pointers = left_pointers u.registers v (without_name s.registers v).pointers (length-set (map_list (unless_at v) s.registers.pointers) v None ∙ length-map s.registers.pointers (unless_at v) ∙ sym (without_pointer_len (without_pointer s.registers v w) w v ∙ without_pointer_len s.registers v w)) (cleared _ v None) others
 
 -- a node without an edge leaves by the last step alone
 part_leaves : (s : State) (v : ℕ) → IsState s → neighbours s.network v ≡ [] → after_leave s v ≡ after_parting s v
@@ -87,7 +87,7 @@ lowered_leaves s v good none =
     ∙ ap (λ flags. record { network = without_node s.network v; registers = record { pointers = (without_name s.registers v).pointers; flags = flags } }) once
 
 pub lowered : (r : Registers) (v : ℕ) → flag_of (with_flag r v false) v ≡ false
-lowered r v = grind (arith, get_or-set_same, get_or_past, length-set, cases_lt)
+lowered r v = cleared r.flags v false
 
 -- a state whose node without an edge and with its flag false is absent then
 pub parted_is_state : (net : Network) (r : Registers) (v : ℕ) → IsState (record { network = net; registers = r }) → neighbours net v ≡ [] → flag_of r v ≡ false → IsState (record { network = record net { here = set net.here v false }; registers = r })

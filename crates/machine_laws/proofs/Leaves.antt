@@ -1,5 +1,5 @@
 -- Registers and edges as a node leaves.
-use Rattle.machine_laws.proofs.Prelude.{◌≡◌, ℕ, false, set, Option, None, Some, is_some, arith, cases_eq, State, Registers, is_at, pointer_of, with_flag, without_pointer}
+use Rattle.machine_laws.proofs.ChargePrelude.Imports.{◌≡◌, ℕ, false, set, Option, None, Some, is_some, arith, cases_eq, State, Registers, is_at, pointer_of, with_flag, without_pointer}
 use Rattle.machine_laws.proofs.Writes.{pointer-with_pointer_other}
 
 -- the state after a node without an edge leaves: its flag is false, and its name is free

@@ -1,4 +1,3 @@
-pub mod Prelude
 pub mod Search
 pub mod Neighbours
 pub mod Pointers
@@ -12,7 +11,6 @@ pub mod AcceptedEvents
 pub mod LeastAnswers
 pub mod Runs
 pub mod StepTests
-pub mod AscendingMoves
 pub mod TwoPasses
 pub mod Pairs
 pub mod MaximalMatchings
@@ -31,7 +29,6 @@ pub mod HalfMatchings
 pub mod EdgesByNodes
 pub mod EdgesByEnds
 pub mod EdgeChanges
-pub mod Bounds
 pub mod Stances
 pub mod WritesOfSteps
 pub mod NodeMoves
@@ -39,7 +36,6 @@ pub mod PresentMovers
 pub mod Asks
 pub mod HsuHuangFalls
 pub mod ManneFalls
-pub mod Zero
 pub mod Tables
 pub mod ChargesOfRuns
 pub mod Steps
@@ -50,11 +46,9 @@ pub mod Degrees
 pub mod StableCharge
 pub mod Disturbed
 pub mod HsuHuangCosts
-pub mod DegreesLeft
 pub mod CostsOfRuns
 pub mod PresentNodes
 pub mod ManneCosts
 pub mod ManneStableCharge
 pub mod SilentRuns
-pub mod LeastCharge
 pub mod Proved

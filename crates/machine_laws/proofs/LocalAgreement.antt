@@ -1,6 +1,6 @@
 -- Two states with the same local view of a node agree on the node's pointer, on its suitors and on whether
 -- it is married.
-use Rattle.machine_laws.proofs.Prelude.{◌≡◌, ℕ, Bool, find, IsTrue, refl, ap, ◌∙◌, inl, linked, neighbours, State, pointer, has_suitor, married, SameAt, arith}
+use Rattle.machine_laws.proofs.ChargePrelude.Imports.{◌≡◌, ℕ, Bool, find, IsTrue, refl, ap, ◌∙◌, inl, linked, neighbours, State, pointer, has_suitor, married, SameAt, arith}
 use Rattle.machine_laws.proofs.Neighbours.{near_agree}
 
 -- a search among the neighbours

@@ -1,13 +1,14 @@
 -- By how much the charge grows under Manne's rules at one disturbance.
-use Rattle.machine_laws.proofs.ChargePrelude.{◌≡◌, ◌≢◌, ℕ, ◌+◌, ◌-◌, ◌*◌, ◌≤◌, Bool, true, false, cond, not, ◌&&◌, ◌||◌, List, count_by, nat_eq, get_or, Option, None, Some, IsTrue, refl, sym, ap, ◌∙◌, subst, inl, inr, ⊎_elim, arith, cases_eq, cases_lt, and_parts, or_parts, or_from, ne_eqb, eq-eqb, get_or-set_same, get_or-set_other, get_or_past, length-set, set, degree_at, true≢false, Network, is_end, linked, present, names, edge_list, State, IsState, is_at, pointer, flag, points, is_mutual, partner, married, has_suitor, is_unanswered, manne_closed, manne_node_charge, manne_charge, after_link, after_unlink, after_point, after_flag, after_join, after_leave, without_pointer, linked_apart, present_range, absent_null, pointer_linked, partner_from, false_from_ne_true, left_was, flag-with_flag_other, flag-with_flag_same, without_pointer_flags, link_keeps, unlink_keeps, point_keeps, flag_keeps, join_keeps, leave_keeps, degree, manne_point_cost, suitor_from, points_true, points_from}
+use Rattle.machine_laws.proofs.ChargePrelude.{◌≡◌, ◌≢◌, ℕ, ◌+◌, ◌-◌, ◌*◌, ◌≤◌, Bool, true, false, cond, not, ◌&&◌, ◌||◌, count_by, nat_eq, get_or, Option, None, Some, IsTrue, refl, sym, ap, ◌∙◌, subst, inl, inr, ⊎_elim, arith, cases_eq, and_parts, or_parts, or_from, ne_eqb, eq-eqb, get_or-set_other, degree_at, true≢false, Network, is_end, linked, present, names, edge_list, State, IsState, is_at, pointer, flag, points, is_mutual, partner, married, has_suitor, is_unanswered, manne_closed, manne_node_charge, manne_charge, after_link, after_unlink, after_point, after_flag, after_join, after_leave, without_pointer, linked_apart, present_range, absent_null, pointer_linked, partner_from, false_from_ne_true, left_was, flag-with_flag_other, flag-with_flag_same, without_pointer_flags, link_keeps, unlink_keeps, point_keeps, flag_keeps, join_keeps, leave_keeps, degree, manne_point_cost, suitor_from, points_true, points_from}
 use Rattle.machine_laws.proofs.ListCounts.{IsIn, sum_twice}
 use Rattle.machine_laws.proofs.EdgesByNodes.{zeros}
 use Rattle.machine_laws.proofs.Members.{edges_contain, names_present}
 use Rattle.machine_laws.proofs.Stances.{unanswered_alone}
 use Rattle.machine_laws.proofs.Degrees.{at_either, at_linked, one_between}
-use Rattle.machine_laws.proofs.DegreesLeft.{degree_without_edge}
+use Rattle.machine_laws.proofs.Disturbed.{degree_without_edge}
 use Rattle.machine_laws.proofs.PaidMoves.{bit, seen}
 use Rattle.machine_laws.proofs.Disturbed.{IsSubNetwork, same_network, WaitsOnly, grows, no_nodes, no_edges, one_node, two_nodes, wed_stays, still_married, IsWritten, written_at, waiting_waits, some_touches, some_waits, null_waits, same_waits, linked_edges, joined_names, unlink_cuts, unlink_waits, unlink_within, leave_cuts, leave_waits, leave_within, uncrossed, edges_if, edges_at_pointer}
+use Rattle.machine_laws.proofs.Writes.{cleared}
 
 -- ---- what stays
 
@@ -128,10 +129,7 @@ leave_flags s v x apart = get_or-set_other s.registers.flags v x false false apa
 
 -- each node that is left is another one
 left_apart : (s : State) (v x : ℕ) → IsIn x (names (after_leave s v).network) → x ≡ v → ⊥
-left_apart s v x there same = true≢false (sym (and_parts _ _ (and_parts _ _ (subst (λ y. IsTrue (present (after_leave s v).network y)) same (names_present (after_leave s v).network x there))).1).1 ∙ lowered s.network.here)
-  where
-    lowered : (row : List Bool) → get_or (set row v false) v false ≡ false
-    lowered row = grind (arith, get_or-set_same, get_or_past, length-set, cases_lt)
+left_apart s v x there same = true≢false (sym (and_parts _ _ (and_parts _ _ (subst (λ y. IsTrue (present (after_leave s v).network y)) same (names_present (after_leave s v).network x there))).1).1 ∙ cleared s.network.here v false)
 
 -- after a node of a pair leaves, the edges left to its partner may open, and the partner's flag is wrong
 abbrev pub parted_cost : Network → Option ℕ → ℕ
@@ -156,6 +154,10 @@ leave_costs s v good has =
 
 -- ---- a flag is written
 
+-- a node's part grows by at most one where the flag alone changes
+adds : (m f m' f' t : Bool) → (m ≡ true → m' ≡ true) → (t ≡ false → f' ≡ f) → ◌≤◌ (cond m' (cond f' 0 1) (cond f' 2 1)) (cond m (cond f 0 1) (cond f 2 1) + bit t)
+adds m f m' f' t wed other = grind arith
+
 -- A flag adds one at its node; set at a node with a suitor, it may open the node's edges.
 pub flag_costs : (s : State) (v : ℕ) (value : Bool) → IsState s → IsTrue (present s.network v) → manne_charge (after_flag s v value) ≤ manne_charge s + (1 + cond (value && has_suitor s v) (2 * degree s.network v) 0)
 flag_costs s v value good has =
@@ -173,9 +175,6 @@ flag_costs s v value good has =
 
     kept : (f f' : ℕ → Bool) → ((x : ℕ) → (x ≡ v → ⊥) → f' x ≡ f x) → f' v ≡ value → (c : Bool) (a b : ℕ) → ((value && c) && is_end v (a, b)) ≡ false → (b ≡ v → c ≡ true) → f b ≡ false → f' b ≡ false
     kept f f' other here c a b clear suitor low = grind (arith, other b, cases_eq)
-
-    adds : (m f m' f' t : Bool) → (m ≡ true → m' ≡ true) → (t ≡ false → f' ≡ f) → ◌≤◌ (cond m' (cond f' 0 1) (cond f' 2 1)) (cond m (cond f 0 1) (cond f 2 1) + bit t)
-    adds m f m' f' t wed other = grind arith
 
 -- ---- edges and nodes come
 
@@ -198,11 +197,8 @@ join_costs s v good low absent =
     let less = grows s (after_join s v) (manne_closed s) (manne_closed (after_join s v)) (manne_node_charge s) (manne_node_charge (after_join s v)) (λ x. bit (nat_eq v x)) (λ e. false) (λ x. false)
     (λ x y there clear. (there, closed_stays s (after_join s v) x y (wed x) (wed y) (λ at. at) (λ at low. low)))
     (same_waits (pointer s) (pointer (after_join s v)) (λ z. refl))
-    (λ x there. ⊎_elim (λ old. inl (old, adds (married s x) (flag s x) (married (after_join s v) x) (nat_eq v x) (wed x))) (λ same. inr (ap (pointer s) same ∙ absent_null s v good absent, fresh (married (after_join s v) x) (flag s x) (nat_eq v x) (eq-eqb v x (sym same)) (ap (flag s) same ∙ unset))) (joined_names s v x there)) in
+    (λ x there. ⊎_elim (λ old. inl (old, adds (married s x) (flag s x) (married (after_join s v) x) (flag s x) (nat_eq v x) (wed x) (λ off. refl))) (λ same. inr (ap (pointer s) same ∙ absent_null s v good absent, fresh (married (after_join s v) x) (flag s x) (nat_eq v x) (eq-eqb v x (sym same)) (ap (flag s) same ∙ unset))) (joined_names s v x there)) in
     omega (arith, less, one_node (after_join s v).network v, no_edges, no_nodes)
   where
-    adds : (m f m' t : Bool) → (m ≡ true → m' ≡ true) → ◌≤◌ (cond m' (cond f 0 1) (cond f 2 1)) (cond m (cond f 0 1) (cond f 2 1) + bit t)
-    adds m f m' t wed = grind arith
-
     fresh : (m f t : Bool) → t ≡ true → f ≡ false → ◌≤◌ (cond m (cond f 0 1) (cond f 2 1)) (bit t)
     fresh m f t marked unset = grind arith

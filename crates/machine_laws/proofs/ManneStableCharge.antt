@@ -1,5 +1,5 @@
 -- The rest of Manne's charge in a stable network: one for each node that is in no pair.
-use Rattle.machine_laws.proofs.ChargePrelude.{◌≡◌, ℕ, ◌+◌, ◌*◌, ◌≤◌, Bool, true, cond, not, ◌&&◌, ◌||◌, List, [], ◌∷◌, length, filter_map, count_by, nat_lt, Option, None, Some, false, is_some, IsTrue, refl, sym, ap, ◌∙◌, arith, not_from_true, names, neighbours, edge_list, node_count, State, IsState, is_at, holds_at, pointer, points, flag, partner, married, has_suitor, manne_closed, manne_node_charge, manne_charge, IsStable, pair_above, mutual_pairs, partner_some, partner_from}
+use Rattle.machine_laws.proofs.ChargePrelude.{◌≡◌, ℕ, ◌+◌, ◌*◌, ◌≤◌, Bool, true, cond, not, ◌&&◌, List, [], ◌∷◌, length, filter_map, count_by, nat_lt, Option, None, Some, false, is_some, IsTrue, refl, sym, ap, ◌∙◌, arith, not_from_true, names, neighbours, edge_list, node_count, State, IsState, is_at, holds_at, pointer, points, flag, partner, married, manne_closed, manne_node_charge, manne_charge, IsStable, pair_above, mutual_pairs, partner_some, partner_from, or_left, or_right, ◌||◌}
 use Rattle.machine_laws.proofs.ListCounts.{count_cons, count_not, count_agree, sum_agree, sum_agree_in, sum_le, none_count}
 use Rattle.machine_laws.proofs.Members.{names_present, names_len}
 use Rattle.machine_laws.proofs.EdgesByNodes.{edges_by_nodes}
@@ -7,24 +7,19 @@ use Rattle.machine_laws.proofs.EdgesByNodes.{by_both}
 use Rattle.machine_laws.proofs.ClosedByPointers.{target_counted}
 use Rattle.machine_laws.proofs.Stances.{married_is}
 use Rattle.machine_laws.proofs.StableCharge.{none_unanswered, an_end_paired}
-use Rattle.machine_laws.proofs.PaidMoves.{bit, IsSeen, seen}
+use Rattle.machine_laws.proofs.PaidMoves.{bit}
+use Rattle.machine_laws.proofs.TwoPasses.{married_answered}
 
 -- the charge is the number of nodes that are not married
 pub manne_stable_leaves : (s : State) → IsState s → IsStable true s → manne_charge s ≡ count_by (λ v. not (married s v)) (names s.network)
 manne_stable_leaves s good stable =
     let unanswered = none_unanswered true s stable in
     let open_edges = none_count (λ e. not (manne_closed s e)) (edge_list s.network) (λ e there. not_from_true (manne_closed s e) (an_end_paired true s good stable e there (IsTrue (manne_closed s e))
-    (λ h. low (married s e.0) (married s e.1) _ (married_is s e.0 good ∙ h))
-    (λ h. high (married s e.0) (married s e.1) _ (married_is s e.1 good ∙ h)))) in
+    (λ h. or_left (married s e.0 || married s e.1) _ (or_left (married s e.0) _ (married_is s e.0 good ∙ h)))
+    (λ h. or_left (married s e.0 || married s e.1) _ (or_right (married s e.0) _ (married_is s e.1 good ∙ h))))) in
     let nodes = sum_agree_in (manne_node_charge s) (λ v. cond (not (married s v)) 1 0) (names s.network) (λ v there. one (married s v) (flag s v) (stable.flagged refl v (names_present s.network v there))) in
     omega (arith, unanswered, open_edges, nodes)
   where
-    low : (m n o : Bool) → m ≡ true → IsTrue (m || n || o)
-    low m n o h = grind arith
-
-    high : (m n o : Bool) → n ≡ true → IsTrue (m || n || o)
-    high m n o h = grind arith
-
     one : (m f : Bool) → f ≡ m → ◌≡◌ {A = ℕ} (cond m (cond f 0 1) (cond f 2 1)) (cond (not m) 1 0)
     one m f e = grind arith
 
@@ -40,10 +35,7 @@ both s e = points s.registers e.0 e.1 && points s.registers e.1 e.0
 
 -- a married node is in one pair, and its partner is above it or not
 wed_at : (s : State) (v : ℕ) → IsState s → count_by (λ w. both s (v, w)) (neighbours s.network v) ≡ bit (married s v)
-wed_at s v good = target_counted s good (λ w. points s.registers w v) v ∙ ap bit (sym (at (pointer s) (married s) (has_suitor s) (seen s good)))
-  where
-    at : (p : ℕ → Option ℕ) (m c : ℕ → Bool) → IsSeen p m c → m v ≡ holds_at (λ w. is_at (p w) v) (p v)
-    at p m c old = grind (arith, old.wed v, old.weds v)
+wed_at s v good = target_counted s good (λ w. points s.registers w v) v ∙ ap bit (sym (married_answered s v good))
 
 lower_at : (s : State) (v : ℕ) → IsState s → count_by (λ w. nat_lt v w && both s (v, w)) (neighbours s.network v) ≡ bit (is_some (pair_above v (partner s v)))
 lower_at s v good =

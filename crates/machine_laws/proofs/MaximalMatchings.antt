@@ -1,5 +1,5 @@
 -- The mutual pairs of a state are a matching; of a stable one a maximal matching, and the other way round.
-use Rattle.machine_laws.proofs.Prelude.{◌≡◌, ℕ, ◌⊎◌, min, max, Bool, Option, None, Some, IfSome, IsTrue, All, Any, Contains, sym, ◌∙◌, arith, Contains-get_or, linked, present, State, IsState, pointer, flag, married, IsStable, IsMaximalMatching, ShareAnEnd, mutual_pairs}
+use Rattle.machine_laws.proofs.ChargePrelude.Imports.{◌≡◌, ℕ, ◌⊎◌, min, max, Bool, Option, None, Some, IfSome, IsTrue, All, Any, Contains, sym, ◌∙◌, arith, Contains-get_or, linked, present, State, IsState, pointer, flag, married, IsStable, IsMaximalMatching, ShareAnEnd, mutual_pairs}
 use Rattle.std.specs.FinMap as map
 use Rattle.machine_laws.proofs.Neighbours.{option_cases, linked_pair}
 use Rattle.machine_laws.proofs.Pointers.{pointer_linked}

@@ -1,5 +1,5 @@
 -- Edges, and searches among the neighbours of a node.
-use Rattle.machine_laws.proofs.Prelude.{◌≡◌, ◌≢◌, ℕ, ◌<◌, ◌≤◌, Bool, true, false, ◌&&◌, Option, None, Some, find, filter, List, [], ◌∷◌, IsTrue, refl, sym, ap, ◌∙◌, inl, inr, ⊎_elim, ◌⊎◌, arith, leb-true, range_with_len, cases_order, and_parts, true≢false, false_from_ne_true, Network, IsNetwork, linked, neighbours, names, present}
+use Rattle.machine_laws.proofs.ChargePrelude.Imports.{◌≡◌, ◌≢◌, ℕ, ◌<◌, ◌≤◌, Bool, true, false, ◌&&◌, Option, None, Some, find, filter, List, [], ◌∷◌, IsTrue, refl, sym, ap, ◌∙◌, inl, inr, ⊎_elim, ◌⊎◌, arith, leb-true, range_with_len, cases_order, and_parts, true≢false, false_from_ne_true, Network, IsNetwork, linked, neighbours, names, present}
 use Rattle.std.specs.FinMap as map
 use Rattle.machine_laws.proofs.Search.{find-filter, find-agree, range_none, range_some, range_fails}
 

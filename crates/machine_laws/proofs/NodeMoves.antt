@@ -1,8 +1,9 @@
 -- What each node does in a step, by its rules, with its registers before and after.
-use Rattle.machine_laws.proofs.ChargePrelude.{◌≡◌, ℕ, ◌+◌, ◌<◌, ◌≤◌, false, List, [], ◌∷◌, length, map, count_by, Any, Option, None, Some, IsSomeAnd, IsTrue, refl, sym, ◌∙◌, subst, inl, inr, arith, AllByRecursion, recursion_from_All, none-some, same_Some, Act, Update, Marry, Seduce, Abandon, Item, Moved, linked, present, names, State, IsState, pointer, flag, married, RuleTable, acts, rule_at, IsTarget, IsMoveOf, IsStep, registers_after, after_moves, present_range, IsMoveIn, moves_keep, find_passes}
+use Rattle.machine_laws.proofs.ChargePrelude.{◌≡◌, ℕ, ◌+◌, ◌<◌, ◌≤◌, false, List, [], ◌∷◌, length, map, count_by, Any, Option, None, Some, IsSomeAnd, IsTrue, refl, sym, ◌∙◌, subst, inl, inr, arith, AllByRecursion, recursion_from_All, Act, Update, Marry, Seduce, Abandon, Item, Moved, linked, present, names, State, IsState, pointer, flag, married, RuleTable, acts, rule_at, IsTarget, IsMoveOf, IsStep, registers_after, after_moves, present_range, IsMoveIn, moves_keep, find_passes}
 use Rattle.machine_laws.proofs.ListCounts.{IsIn, IsWithoutRepeats}
 use Rattle.machine_laws.proofs.Members.{in_names, all_at, single_from_increasing}
 use Rattle.machine_laws.proofs.WritesOfSteps.{pointer_after_act, flag_by, is_mover_in, NodeAfterMoves, still, moved, moves_leave, in_nodes, node_is_moved, moves_counted}
+use Rattle.machine_laws.proofs.Runs.{is_target_allowed}
 
 -- only a present node has an enabled rule, and the targets that the rule allows are neighbours
 pub record IsInside (t : RuleTable) : Type 0 where
@@ -45,11 +46,8 @@ ruled_deed t s s' moves v Marry wish target goes guard is e f = let aim = some_a
 ruled_deed t s s' moves v Seduce wish target goes guard is e f = let aim = some_and target (λ w. IsTrue (t.allowed s v Seduce w)) is.0 in seduces aim.0 goes guard aim.2 (e ∙ aim.1) f
 ruled_deed t s s' moves v Abandon wish target goes guard is e f = abandons goes guard e f
 
-ruled_near : (t : RuleTable) → IsInside t → (s : State) (v : ℕ) (act : Act) (wish target : Option ℕ) → IsTarget t s v act wish target → (x : ℕ) → target ≡ Some x → IsTrue (linked s.network v x)
-ruled_near t inside s v act wish target is x at = grind (arith, some_and, same_Some, none-some)
-
 ruled_in : (t : RuleTable) → IsInside t → (s : State) → IsState s → (m : Moved) → IsRuled t s m → IsMoveIn s.network m
-ruled_in t inside s good m ruled = grind (arith, find_passes, acts, ruled_near)
+ruled_in t inside s good m ruled = grind (arith, find_passes, acts, is_target_allowed)
 
 all_from_in : (P : Moved → Type 0) (moves : List Moved) → ((m : Moved) → IsIn m moves → P m) → AllByRecursion P moves
 all_from_in P [] h = tt

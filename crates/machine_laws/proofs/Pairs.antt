@@ -1,5 +1,5 @@
 -- The list of mutual pairs.
-use Rattle.machine_laws.proofs.Prelude.{◌≡◌, ℕ, Bool, true, false, cond, filter, IsTrue, zero, suc, ◌+◌, ◌<◌, ◌≤◌, List, [], ◌∷◌, Option, None, Some, Contains, Any, nat_lt, filter_map, refl, sym, ap, ◌∙◌, subst, ⊎_elim, ◌⊎◌, arith, lt-ltb, range_with_len, cons_option, cases_eq, cases_order, cond-true, cond_some, Contains-push, Contains-push_cases, Contains-append_left, Contains-append_right, Contains-append_cases, names, Network, present, State, IsState, pointer, partner, pair_above, mutual_pairs}
+use Rattle.machine_laws.proofs.ChargePrelude.Imports.{◌≡◌, ℕ, Bool, true, false, cond, filter, IsTrue, zero, suc, ◌+◌, ◌<◌, ◌≤◌, List, [], ◌∷◌, Option, None, Some, Contains, Any, nat_lt, filter_map, refl, sym, ap, ◌∙◌, subst, ⊎_elim, ◌⊎◌, arith, lt-ltb, range_with_len, cons_option, cases_eq, cases_order, cond-true, cond_some, Contains-push, Contains-push_cases, Contains-append_left, Contains-append_right, Contains-append_cases, names, Network, present, State, IsState, pointer, partner, pair_above, mutual_pairs}
 use Rattle.std.proofs.Common.{ltb-true}
 use Rattle.machine_laws.proofs.Neighbours.{present_range, linked_present, linked_apart}
 use Rattle.machine_laws.proofs.Pointers.{pointer_linked, partner_some, partner_from}

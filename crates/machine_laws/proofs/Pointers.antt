@@ -1,5 +1,5 @@
 -- Pointers, suitors and partners.
-use Rattle.machine_laws.proofs.Prelude.{same_Some, none-some, false_from_ne_true, ◌≡◌, ◌≢◌, ℕ, true, false, Option, None, Some, is_some, IsTrue, sym, ap, ◌∙◌, subst, and_parts, and_from, linked, present, State, IsState, points, pointer, suits, first_suitor, has_suitor, is_mutual, partner, married, arith}
+use Rattle.machine_laws.proofs.ChargePrelude.Imports.{same_Some, none-some, false_from_ne_true, ◌≡◌, ◌≢◌, ℕ, true, false, Option, None, Some, is_some, IsTrue, sym, ap, ◌∙◌, subst, and_parts, and_from, linked, present, State, IsState, points, pointer, suits, first_suitor, has_suitor, is_mutual, partner, married, arith}
 use Rattle.machine_laws.proofs.Neighbours.{option_cases, linked_present, linked_back, near_none, near_some, near_found}
 use Rattle.machine_laws.proofs.Writes.{if_some_at, some_from_is_at, is_at_from_some}
 

@@ -1,10 +1,10 @@
 -- Every run ends in a state.
-use Rattle.machine_laws.proofs.Prelude.{◌≡◌, ℕ, ◌⊎◌, inl, inr, ⊎_elim, accepted_state, List, [], ◌∷◌, ◌++◌, Any, Option, None, Some, IsTrue, refl, sym, subst, All-weaker, recursion_from_All, Act, Item, Moved, Event, Step, Refusal, Reply, Moves, present, State, IsState, RuleTable, IsTarget, IsMoveOf, IsStep, refusal_of, Does, AnswersBy, Answers, spent_after, Entry, Moment, Run, IsMoveIn, arith}
+use Rattle.machine_laws.proofs.ChargePrelude.Imports.{◌≡◌, ℕ, ◌⊎◌, inl, inr, ⊎_elim, accepted_state, List, [], ◌∷◌, ◌++◌, Any, Option, None, Some, IsTrue, refl, sym, subst, All-weaker, recursion_from_All, Act, Item, Moved, Event, Step, Refusal, Reply, Moves, present, State, IsState, RuleTable, IsTarget, IsMoveOf, IsStep, refusal_of, Does, AnswersBy, Answers, spent_after, Entry, Moment, Run, IsMoveIn, arith}
 use Rattle.machine_laws.proofs.StatePreservation.{moves_keep}
 use Rattle.machine_laws.proofs.LeastMoves.{IsTable}
 use Rattle.machine_laws.proofs.AcceptedEvents.{IsStepChoice, choice_from_none, taken_at, accepted_keeps}
 
-is_target_allowed : (t : RuleTable) (s : State) (v : ℕ) (act : Act) (wish target : Option ℕ) → IsTarget t s v act wish target → (x : ℕ) → target ≡ Some x → IsTrue (t.allowed s v act x)
+pub is_target_allowed : (t : RuleTable) (s : State) (v : ℕ) (act : Act) (wish target : Option ℕ) → IsTarget t s v act wish target → (x : ℕ) → target ≡ Some x → IsTrue (t.allowed s v act x)
 is_target_allowed t s v act wish target is x at = grind arith
 
 move_of_is_move_in : (t : RuleTable) → IsTable t → (s : State) (item : Item) (m : Moved) → IsTrue (present s.network item.node) → IsMoveOf t s item m → IsMoveIn s.network m

@@ -1,5 +1,5 @@
 -- Properties of `find` and `filter` over a range of numbers.
-use Rattle.machine_laws.proofs.Prelude.{◌≡◌, ℕ, zero, suc, ◌+◌, ◌<◌, ◌≤◌, Bool, true, false, cond, ◌&&◌, List, [], ◌∷◌, Option, None, Some, find, filter, refl, ◌⊎◌, arith, range_with_len, cases_eq}
+use Rattle.machine_laws.proofs.ChargePrelude.Imports.{◌≡◌, ℕ, zero, suc, ◌+◌, ◌<◌, ◌≤◌, Bool, true, false, cond, ◌&&◌, List, [], ◌∷◌, Option, None, Some, find, filter, refl, ◌⊎◌, arith, range_with_len, cases_eq}
 
 -- the test of the first item fails, and so does the search in the rest
 pub cond-none : {X : Type 0} (b : Bool) (x : X) (o : Option X) → cond b (Some x) o ≡ None → (b ≡ false) × (o ≡ None)

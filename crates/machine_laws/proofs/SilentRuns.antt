@@ -1,8 +1,11 @@
 -- A run that is long enough ends silent. If each turn moves a node or is made in a silent network, the
 -- network is silent after as many turns as the budget. A budget is any bound that moves use up.
-use Rattle.machine_laws.proofs.ChargePrelude.{◌≡◌, ◌≢◌, ℕ, suc, ◌-◌, ◌≤◌, List, [], ◌∷◌, length, All, Any, None, Some, IsTrue, refl, sym, ap, subst, ⊎_elim, arith, true≢false, All-head, All-tail, All-cons, All-nil, Act, Item, Moved, Event, Reply, Accepted, present, State, IsState, RuleTable, rule_at, least_target, enabled_names, IsMoveOf, IsStep, after_moves, Answers, spent_after, Entry, Moment, no_act, quiet_at, quiet_from, makes_move_of, IsTable, find_passes, option_cases, answers_keep, IsCharged, moves_of, IsUndisturbed, end_of_path, path_entries, IsPath, IsDriven}
+use Rattle.machine_laws.proofs.ChargePrelude.{◌≡◌, ◌≢◌, ℕ, suc, ◌-◌, ◌≤◌, List, [], ◌∷◌, length, All, Any, None, Some, IsTrue, refl, sym, ap, subst, ⊎_elim, arith, true≢false, All-head, All-tail, Act, Item, Moved, Event, Reply, Accepted, present, State, IsState, RuleTable, rule_at, enabled_names, IsMoveOf, IsStep, Answers, spent_after, Entry, Moment, no_act, quiet_at, quiet_from, IsTable, find_passes, option_cases, answers_keep, IsCharged, moves_of, IsUndisturbed, end_of_path, path_entries, IsPath, IsDriven}
 use Rattle.machine_laws.proofs.NodeMoves.{IsInside}
 use Rattle.machine_laws.proofs.ChargesOfRuns.{Effect, rests, steps, disturbs, effect}
+use Rattle.machine_laws.proofs.LeastAnswers.{least_step}
+use Rattle.machine_laws.proofs.AcceptedEvents.{IsStepChoice}
+use Rattle.machine_laws.proofs.Steps.{some_moves}
 
 -- from a state within n, a step has at most n moves, and the state after the step is within n minus these
 -- moves
@@ -17,47 +20,20 @@ charge_budget t weight charged = record {
   more = λ s n m within le. omega (arith, within, le);
 }
 
--- ---- one step more
-
--- an enabled node may move alone
-lone_step : (t : RuleTable) → IsTable t → (s : State) → IsState s → (v : ℕ) (act : Act) → IsTrue (present s.network v) → rule_at t s v ≡ Some act → (items : List Item) × ((moves : List Moved) × ((length moves ≡ 1) × IsStep t s items moves (after_moves s moves)))
-lone_step t table s good v act has rule = (
-  item ∷ [],
-  (
-    m ∷ [],
-    (
-      refl,
-      record {
-        some = λ none. let len : ◌≡◌ {A = ℕ} 1 0 = ap length none in omega (arith, len);
-        alone = λ central. refl;
-        ascending = λ k below. absurd (omega (arith, below));
-        each = All-cons (λ m. Any (λ item. IsMoveOf t s item m) (item ∷ [])) m [] (0, item, omega arith, refl, is) (All-nil (λ m. Any (λ item. IsMoveOf t s item m) (item ∷ [])));
-        all = All-cons (λ item. Any (λ m. IsMoveOf t s item m) (m ∷ [])) item [] (0, m, omega arith, refl, is) (All-nil (λ item. Any (λ m. IsMoveOf t s item m) (m ∷ [])));
-        after = refl;
-      },
-    ),
-  ),
-)
-  where
-    item : Item
-    item = record { node = v; wish = None }
-
-    m : Moved
-    m = record { node = v; act = act; target = least_target t s v act }
-
-    is : IsMoveOf t s item m
-    is = makes_move_of t table s good item m (record { has = has; node = refl; rule = rule; target = refl })
-
 -- a state with no budget left is silent
 pub spent_is_quiet : (t : RuleTable) (within : State → ℕ → Type 0) → IsTable t → IsBudget t within → (s : State) → IsState s → within s 0 → enabled_names t s ≡ []
 spent_is_quiet t within table budget s good none =
-    quiet_from t s (λ v has act. ⊎_elim
-    (λ idle. no_act (t.guard s v) idle act)
-    (λ some.
-    let step = lone_step t table s good v some.0 has some.1 in
-    let spends = (budget.spends s 0 step.0 step.1.0 (after_moves s step.1.0) good none step.1.1.1).0 in
-    absurd (omega (arith, spends, step.1.1.0)))
-    (option_cases (rule_at t s v)))
+    quiet_from t s (λ v has act. ⊎_elim (λ idle. no_act (t.guard s v) idle act) (λ some. absurd (goes v some.0 has some.1)) (option_cases (rule_at t s v)))
+  where
+    choice : (v : ℕ) (act : Act) → IsTrue (present s.network v) → rule_at t s v ≡ Some act → IsStepChoice t s (record { node = v; wish = None } ∷ [])
+    choice v act has rule = grind arith
+
+    -- an enabled node may move alone
+    goes : (v : ℕ) (act : Act) → IsTrue (present s.network v) → rule_at t s v ≡ Some act → ⊥
+    goes v act has rule =
+        let step = least_step t table s good _ (choice v act has rule) in
+        let few = (budget.spends s 0 _ _ _ good none step).0 in
+        omega (arith, few, some_moves _ step.some)
 
 -- ---- silence lasts
 

@@ -1,5 +1,5 @@
 -- No answer changes how many names there are.
-use Rattle.machine_laws.proofs.Prelude.{◌≡◌, ℕ, List, [], ◌∷◌, Option, ap, Event, Refusal, Reply, State, RuleTable, AnswersBy, spent_after, Entry, Moment, Run, arith}
+use Rattle.machine_laws.proofs.ChargePrelude.Imports.{◌≡◌, ℕ, List, [], ◌∷◌, Option, ap, Event, Refusal, Reply, State, RuleTable, AnswersBy, spent_after, Entry, Moment, Run, arith}
 
 size_by : (t : RuleTable) (s : State) (n : ℕ) (event : Event) (r : Option Refusal) (reply : Reply) (s' : State) → AnswersBy t s n event r reply s' → s'.network.size ≡ s.network.size
 size_by t s n event r reply s' does = grind arith

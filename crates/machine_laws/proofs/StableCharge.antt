@@ -1,5 +1,5 @@
 -- The charge of a stable network.
-use Rattle.machine_laws.proofs.ChargePrelude.{◌≡◌, ℕ, Bool, true, false, ◌||◌, married, not, count_by, IsTrue, ap, ◌∙◌, ⊎_elim, arith, not_from_true, names, edge_list, State, IsState, pointer, is_unanswered, hsu_huang_closed, hsu_huang_charge, IsStable}
+use Rattle.machine_laws.proofs.ChargePrelude.{◌≡◌, ℕ, Bool, false, married, not, count_by, IsTrue, ap, ◌∙◌, ⊎_elim, arith, not_from_true, names, edge_list, State, IsState, pointer, is_unanswered, hsu_huang_closed, hsu_huang_charge, IsStable, or_left, or_right, true, ◌||◌}
 use Rattle.machine_laws.proofs.ListCounts.{IsIn, none_count}
 use Rattle.machine_laws.proofs.Members.{edges_contain}
 use Rattle.machine_laws.proofs.MaximalMatchings.{end_answered}
@@ -21,11 +21,8 @@ an_end_paired uses_flags s good stable e there P low high =
 pub hsu_huang_stable_is_zero : (s : State) → IsState s → IsStable false s → hsu_huang_charge s ≡ 0
 hsu_huang_stable_is_zero s good stable =
     let unanswered = none_unanswered false s stable in
-    let open_edges = none_count (λ e. not (hsu_huang_closed s e)) (edge_list s.network) (λ e there. not_from_true (hsu_huang_closed s e) (an_end_paired false s good stable e there (IsTrue (hsu_huang_closed s e)) (λ h. low (married s e.0) (married s e.1) _ _ _ (married_is s e.0 good ∙ h)) (λ h. high (married s e.0) (married s e.1) _ _ _ (married_is s e.1 good ∙ h)))) in
+    let open_edges = none_count (λ e. not (hsu_huang_closed s e)) (edge_list s.network) (λ e there. not_from_true (hsu_huang_closed s e) (an_end_paired false s good stable e there (IsTrue (hsu_huang_closed s e)) (λ h. closes (married s e.0 || married s e.1) _ _ _ (or_left (married s e.0) _ (married_is s e.0 good ∙ h))) (λ h. closes (married s e.0 || married s e.1) _ _ _ (or_right (married s e.0) _ (married_is s e.1 good ∙ h))))) in
     omega (arith, unanswered, open_edges)
   where
-    low : (m n a b c : Bool) → m ≡ true → (m || n || a || b || c) ≡ true
-    low m n a b c h = grind arith
-
-    high : (m n a b c : Bool) → n ≡ true → (m || n || a || b || c) ≡ true
-    high m n a b c h = grind arith
+    closes : (p a b c : Bool) → p ≡ true → (p || a || b || c) ≡ true
+    closes p a b c h = grind arith

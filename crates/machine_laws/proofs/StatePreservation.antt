@@ -1,5 +1,5 @@
 -- Events lead from valid states to valid states.
-use Rattle.machine_laws.proofs.Prelude.{none-some, ◌≡◌, ℕ, ◌+◌, ◌≤◌, Bool, false, List, map, set, [], ◌∷◌, length, fold, replicate, Option, None, Some, IsTrue, sym, ap, ◌∙◌, ⊎_elim, arith, get_or, AllByRecursion, length-set, length-map, length-replicate, get_or-replicate, get_or_past, get_or-set_same, get_or-set_other, get_or-map, true≢false, cases_lt, Act, Update, Abandon, Moved, Network, edge, linked, without_edge, present, State, Registers, IsState, opening_with, is_at, pointer, pointer_of, flag_of, with_pointer, with_flag, married, after_link, after_unlink, after_point, after_flag, after_join, after_leave, without_pointer, without_name, unless_at, written, after_move, after_moves, IsMoveIn}
+use Rattle.machine_laws.proofs.ChargePrelude.Imports.{none-some, ◌≡◌, ℕ, ◌+◌, ◌≤◌, Bool, false, List, map, set, [], ◌∷◌, length, fold, replicate, Option, None, Some, IsTrue, sym, ap, ◌∙◌, ⊎_elim, arith, get_or, AllByRecursion, length-set, length-map, length-replicate, get_or-replicate, get_or_past, get_or-set_same, get_or-set_other, get_or-map, true≢false, cases_lt, Act, Update, Abandon, Moved, Network, edge, linked, without_edge, present, State, Registers, IsState, opening_with, is_at, pointer, pointer_of, flag_of, with_pointer, with_flag, married, after_link, after_unlink, after_point, after_flag, after_join, after_leave, without_pointer, without_name, unless_at, written, after_move, after_moves, IsMoveIn}
 use Rattle.machine_laws.proofs.Edges.{edgeless_is_network, with_node_is_network, without_node_is_network, still_present, present_other, still_without, with_edge_is_network, without_edge_is_network, still_inserted, still_removed, edge_ends}
 use Rattle.machine_laws.proofs.Writes.{if_some_from, if_some_at, cleared, is_at_from_some, pointer-with_pointer_other, pointer_cases, flag_cases, without_pointer_was, without_pointer_gone, without_pointer_flags, without_pointer_len}
 
@@ -69,7 +69,7 @@ unless_at_some v o y e = grind arith
 pub left_pointer : (r : Registers) (v x y : ℕ) → pointer_of (without_name r v) x ≡ Some y → (x ≡ v → ⊥) × (y ≡ v → ⊥) × (pointer_of r x ≡ Some y)
 left_pointer r v x y e =
     let kept : Registers = record r { pointers = map (unless_at v) r.pointers } in
-    let apart : x ≡ v → ⊥ = λ same. let k : nowhere ≡ Some y = sym (cleared kept.pointers v) ∙ ap (λ z. get_or (set kept.pointers v None) z nowhere) (sym same) ∙ e in cc in
+    let apart : x ≡ v → ⊥ = λ same. let k : nowhere ≡ Some y = sym (cleared kept.pointers v None) ∙ ap (λ z. get_or (set kept.pointers v None) z nowhere) (sym same) ∙ e in cc in
     let old = sym (pointer-with_pointer_other kept v None x apart) ∙ e in
     let was = unless_at_some v (pointer_of r x) y (sym (get_or-map (unless_at v) r.pointers x nowhere) ∙ old) in
     (apart, (λ same. true≢false (sym (is_at_from_some (pointer_of r x) v (was.0 ∙ ap Some same)) ∙ was.1)), was.0)

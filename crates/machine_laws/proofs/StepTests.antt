@@ -1,7 +1,9 @@
 -- The tests of a step's moves are true if the definitions hold.
-use Rattle.machine_laws.proofs.Prelude.{◌≡◌, ◌≢◌, ℕ, Bool, true, false, cond, not, List, [], ◌∷◌, length, map, All, Any, Option, None, Some, IsSome, Decides, nat_eq, refl, arith, list_any, list_all, IsStrictlyIncreasing, false≢true, true≢false, and_parts, and_from, Decides-and, Decides-not, Decides-eqb, Decides-by_and, Any-from_list_any, list_any-from_Any, none-some, same_Some, Act, Item, Moved, State, RuleTable, IsAllowedTarget, IsTarget, IsMoveOf, IsStep, after_moves, same_act, is_rule, suits_wish, is_target, is_move_of, is_asked, is_answered, are_of_items}
+use Rattle.machine_laws.proofs.ChargePrelude.Imports.{◌≡◌, ◌≢◌, ℕ, Bool, true, false, cond, not, List, [], ◌∷◌, length, map, All, Any, Option, None, Some, IsSome, Decides, nat_eq, refl, arith, list_any, list_all, IsStrictlyIncreasing, false≢true, true≢false, and_parts, and_from, Decides-and, Decides-not, Decides-eqb, Decides-by_and, Any-from_list_any, list_any-from_Any, none-some, same_Some, Act, Item, Moved, State, RuleTable, IsAllowedTarget, IsTarget, IsMoveOf, IsStep, after_moves, same_act, is_rule, suits_wish, is_target, is_move_of, is_asked, is_answered, are_of_items, ◌+◌, ◌<◌, get_or, IsTrue, ◌↔◌, IsAllAdjacentAnswer, length-map, Update}
 use Rattle.std.proofs.Common.{eq-eqb, eqb-true}
 use Rattle.rule_machine.specs.Step.{takes_target}
+use Rattle.std.specs.Prelude.{nat_lt}
+use Rattle.std.proofs.lemmas.List.{get_or-map}
 
 -- a test that fails, of what cannot be
 never : {P : Type 0} → (P → ⊥) → Decides false P
@@ -71,3 +73,19 @@ step_from_tests t s items moves up e = grind (arith, are_of_items_decides)
 -- the moves of a step are those of its items
 pub tests_from_step : (t : RuleTable) (s : State) (items : List Item) (moves : List Moved) (after : State) → IsStep t s items moves after → are_of_items t s items moves ≡ true
 tests_from_step t s items moves after step = grind (arith, are_of_items_decides)
+
+-- ---- moves ascend by node if each two moves in a row do
+
+nobody : Moved
+nobody = record { node = 0; act = Update; target = None }
+
+-- whether the node of the first move is below the node of the second
+abbrev pub is_before : Moved → Moved → Bool
+is_before a b = nat_lt a.node b.node
+
+node_at : (moves : List Moved) (k : ℕ) (m : Moved) → k < length moves → get_or (map (λ x. x.node) moves) k 0 ≡ (get_or moves k m).node
+node_at moves k m below = let node : Moved → ℕ = λ x. x.node in get_or-map node moves k m 0 below
+
+pub ascending_by : (moves : List Moved) (r : Bool) → IsAllAdjacentAnswer (λ a b t. t ≡ is_before a b) moves r → IsTrue r ↔ IsStrictlyIncreasing (map (λ m. m.node) moves)
+ascending_by moves true told = (λ done k within. grind (arith, told k nobody, node_at moves k nobody, node_at moves (k + 1) nobody, length-map), λ up. refl)
+ascending_by moves false (k, below, told) = (λ h. absurd (false≢true h), λ up. grind (arith, told nobody, up k, node_at moves k nobody, node_at moves (k + 1) nobody, length-map))

@@ -1,6 +1,6 @@
 -- A step may be written in two passes: first all flags, computed from the pointers before the step, then
 -- all pointers.
-use Rattle.machine_laws.proofs.Prelude.{◌≡◌, ℕ, Bool, List, [], ◌∷◌, fold, Some, is_some, refl, sym, ap, ◌∙◌, Act, Update, Moved, State, Registers, IsState, pointer, with_flag, points, married, partner, after_move, registers_after, true≢false, is_answered_at, flag_read_by, flag_read, pointer_written, arith}
+use Rattle.machine_laws.proofs.ChargePrelude.Imports.{◌≡◌, ℕ, Bool, List, [], ◌∷◌, fold, Some, is_some, refl, sym, ap, ◌∙◌, Act, Update, Moved, State, Registers, IsState, pointer, with_flag, points, married, partner, after_move, registers_after, true≢false, is_answered_at, flag_read_by, flag_read, pointer_written, arith}
 use Rattle.machine_laws.proofs.Neighbours.{option_cases}
 use Rattle.machine_laws.proofs.Pointers.{partner_from, null_unmarried, unanswered_unmarried, points_true, points_from}
 

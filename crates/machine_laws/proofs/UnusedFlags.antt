@@ -1,5 +1,5 @@
 -- If flags are not used, none is ever set.
-use Rattle.machine_laws.proofs.Prelude.{◌≡◌, ◌≢◌, ℕ, ◌+◌, false, List, [], ◌∷◌, fold, get_or, Option, None, Any, refl, ap, ◌∙◌, AllByRecursion, All-weaker, recursion_from_All, true≢false, cases_Bool, Act, Update, Item, Moved, Event, Step, Refusal, Reply, Moves, State, Registers, flag, flag_of, opening_with, RuleTable, IsMoveOf, IsStep, written, after_move, refusal_of, Does, AnswersBy, spent_after, Entry, Moment, Run, arith}
+use Rattle.machine_laws.proofs.ChargePrelude.Imports.{◌≡◌, ◌≢◌, ℕ, ◌+◌, false, List, [], ◌∷◌, fold, get_or, Option, None, Any, refl, ap, ◌∙◌, AllByRecursion, All-weaker, recursion_from_All, true≢false, cases_Bool, Act, Update, Item, Moved, Event, Step, Refusal, Reply, Moves, State, Registers, flag, flag_of, opening_with, RuleTable, IsMoveOf, IsStep, written, after_move, refusal_of, Does, AnswersBy, spent_after, Entry, Moment, Run, arith}
 use Rattle.machine_laws.proofs.LeastMoves.{find_passes}
 use Rattle.machine_laws.proofs.Writes.{without_pointer_flags}
 use Rattle.machine_laws.proofs.StatePreservation.{flag_left, blank_flag}

@@ -1,5 +1,5 @@
 -- The values of registers after a write.
-use Rattle.machine_laws.proofs.Prelude.{◌≡◌, ℕ, ◌⊎◌, inl, inr, ◌<◌, Bool, true, false, cond, List, length, Option, None, Some, IfSome, refl, sym, ap, ◌∙◌, subst, ⊎_elim, arith, get_or, set, get_or-set_same, get_or-set_other, get_or_past, set_past, length-set, cases_lt, cases_eq, true≢false, eq-eqb, Registers, pointer_of, flag_of, is_at, points, with_pointer, with_flag, without_pointer}
+use Rattle.machine_laws.proofs.ChargePrelude.Imports.{◌≡◌, ℕ, ◌⊎◌, inl, inr, ◌<◌, Bool, true, false, cond, List, length, Option, None, Some, IfSome, refl, sym, ap, ◌∙◌, subst, ⊎_elim, arith, get_or, set, get_or-set_same, get_or-set_other, get_or_past, set_past, length-set, cases_lt, cases_eq, true≢false, eq-eqb, Registers, pointer_of, flag_of, is_at, points, with_pointer, with_flag, without_pointer}
 
 -- a fact about an option's value follows from the fact for each value that it may have, and conversely
 pub if_some_from : {X : Type 0} (o : Option X) (P : X → Type 0) → ((x : X) → o ≡ Some x → P x) → IfSome o P
@@ -37,23 +37,17 @@ pointer_cases r v target w x e = grind (arith, pointer-with_pointer_same, set_pa
 pub flag_cases : (r : Registers) (v : ℕ) (value : Bool) (w : ℕ) → flag_of (with_flag r v value) w ≡ true → (w ≡ v) ⊎ (flag_of r w ≡ true)
 flag_cases r v value w e = ⊎_elim inl (λ apart. inr (sym (flag-with_flag_other r v value w apart) ∙ e)) (cases_eq w v)
 
--- a cleared pointer is null
-pub cleared : (pointers : List (Option ℕ)) (v : ℕ) → get_or (set pointers v None) v None ≡ None
-cleared pointers v = grind (arith, get_or-set_same, get_or_past, length-set, cases_lt)
-
-without_pointer_by : (b : Bool) (r : Registers) (v x y : ℕ) → pointer_of (cond b (with_pointer r v None) r) x ≡ Some y → pointer_of r x ≡ Some y
-without_pointer_by b r v x y e = grind (arith, pointer_cases)
+-- the default is written
+pub cleared : {X : Type 0} (xs : List X) (v : ℕ) (d : X) → get_or (set xs v d) v d ≡ d
+cleared xs v d = grind (arith, get_or-set_same, get_or_past, length-set, cases_lt)
 
 -- what is left was there
 pub without_pointer_was : (r : Registers) (v w x y : ℕ) → pointer_of (without_pointer r v w) x ≡ Some y → pointer_of r x ≡ Some y
-without_pointer_was r v w x y e = without_pointer_by (points r v w) r v x y e
-
-without_pointer_gone_by : (b : Bool) (r : Registers) (v w : ℕ) → points r v w ≡ b → pointer_of (cond b (with_pointer r v None) r) v ≡ Some w → ⊥
-without_pointer_gone_by b r v w at e = grind (arith, cleared, true≢false, is_at_from_some)
+without_pointer_was r v w x y e = grind (arith, pointer_cases)
 
 -- v does not point at w any more
 pub without_pointer_gone : (r : Registers) (v w : ℕ) → pointer_of (without_pointer r v w) v ≡ Some w → ⊥
-without_pointer_gone r v w e = without_pointer_gone_by (points r v w) r v w refl e
+without_pointer_gone r v w e = grind (arith, cleared r.pointers v None, true≢false, is_at_from_some)
 
 -- only pointers change, and no table its length
 pub without_pointer_flags : (r : Registers) (v w : ℕ) → (without_pointer r v w).flags ≡ r.flags

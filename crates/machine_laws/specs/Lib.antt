@@ -1,4 +1,5 @@
 pub mod MoveTests
+pub mod StatesAfterReplies
 pub mod TwoPasses
 pub mod HalfMatchings
 pub mod ChargeWords

@@ -13,7 +13,7 @@ ghost use Rattle.machine_laws.specs.Laws.{SilenceLasts, LongRunsEndSilent};
 /// By Manne's rules a network is stable exactly if its charge is the number of its unmarried nodes.
 ///
 /// In any other state the charge is greater.
-#[tactic(auto, using(crate::proofs::ManneStableCharge::manne_stable_charge, crate::proofs::LeastCharge::least_charge_is_stable, crate::proofs::LeastCharge::charge_is_more))]
+#[tactic(auto, using(crate::proofs::ManneStableCharge::manne_stable_charge, crate::proofs::Proved::least_charge_is_stable, crate::proofs::Proved::charge_is_more))]
 pub fn least_charge_is_stable()
     ensures exactly { (s : State) → IsState s → IsStable true s ↔ (manne.charge s + 2 * length (mutual_pairs s) ≡ node_count s.network) }
     ensures least { (s : State) → IsState s → node_count s.network ≤ manne.charge s + 2 * length (mutual_pairs s) }
@@ -23,7 +23,7 @@ pub fn least_charge_is_stable()
 ///
 /// A run without a disturbance is stable once its moves reach the charge at its start minus the number of
 /// nodes that are in no mutual pair at its end.
-#[tactic(auto, using(crate::proofs::LeastCharge::manne_enough_moves))]
+#[tactic(auto, using(crate::proofs::Proved::manne_enough_moves))]
 pub fn fewer_moves_settle()
     ensures { (start : Moment) → IsState start.state → (log : List Entry) (end : Moment) → Run manne start log end → IsUndisturbed log
         → manne.charge start.state + 2 * length (mutual_pairs end.state) ≤ moves_in log + node_count start.state.network → IsStable true end.state }

@@ -14,7 +14,7 @@ pub use Rattle.std.specs.Option.{option_map, option_or}
 pub use Rattle.std.specs.Ordering.{is_lt, nat_cmp}
 pub use Rattle.std.specs.declared.alloc.Global.{Global}
 pub use Rattle.std.specs.declared.vec.Vec.{Vec}
-pub use Rattle.machine_laws.proofs.Bounds.{hsu_huang_bounded, manne_bounded}
+pub use Rattle.machine_laws.proofs.Laws.{hsu_huang_bounded, manne_bounded}
 pub use Rattle.machine_laws.proofs.ClosedByPointers.{hsu_huang_split, manne_split}
 pub use Rattle.machine_laws.proofs.EdgesByEnds.{edges_agree}
 pub use Rattle.machine_laws.proofs.ListCounts.{sum_agree, sum_add, none_count}
@@ -29,7 +29,7 @@ pub use Rattle.net_state.specs.EdgeStances.{end_at, are_open, open_edges, Counts
 pub use Rattle.net_state.specs.declared.edge_stance.EdgeStance.{EdgeStance}
 pub use Rattle.net_state.specs.declared.edge_stance.EdgeStance.TheVariants.{Shut, Courted, Free}
 pub use Rattle.machine_laws.proofs.AcceptedEvents.{IsStepChoice, choice_from_none, taken_at}
-pub use Rattle.machine_laws.proofs.AscendingMoves.{ascending_by, is_before}
+pub use Rattle.machine_laws.proofs.StepTests.{ascending_by, is_before}
 pub use Rattle.machine_laws.proofs.Bases.{base_tells}
 pub use Rattle.machine_laws.proofs.Neighbours.{present_range, linked_present, option_cases, linked_back, near_found, names_none, names_fails, near_fails, linked_apart, near_agree}
 pub use Rattle.machine_laws.proofs.Pointers.{partner_from, partner_some, points_from, points_true, pointer_linked, married_from, none_is, null_unmarried, unanswered_unmarried}
