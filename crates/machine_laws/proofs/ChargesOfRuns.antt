@@ -1,5 +1,5 @@
 -- Bounds on runs from the charge, for any rule set whose steps lower the charge.
-use Rattle.machine_laws.proofs.ChargePrelude.{◌≡◌, ◌≢◌, ℕ, ◌+◌, ◌≤◌, List, [], ◌∷◌, Option, None, Some, refl, sym, ap, ◌∙◌, subst, arith, All-head, All-tail, sum_by-cons, Item, Moved, Event, Step, Show, Enabled, Matching, Status, Refusal, Reply, Accepted, Moves, Shown, EnabledAre, Pairs, Counts, State, IsState, RuleTable, IsStep, refusal_of, Does, AnswersBy, Answers, spent_after, Entry, Moment, Run, IsTable, answers_keep, charge_bound, IsCharged, moves_of, moves_in, IsUndisturbed, IsWithinBound}
+use Rattle.machine_laws.proofs.ChargePrelude.{◌≡◌, ◌≢◌, ℕ, ◌+◌, ◌≤◌, List, [], ◌∷◌, Option, None, Some, refl, sym, ap, ◌∙◌, subst, arith, All-head, All-tail, sum_by-cons, Item, Moved, Event, Step, Show, Enabled, Matching, Status, Refusal, Reply, Accepted, Moves, Shown, EnabledAre, Pairs, Counts, State, IsState, RuleTable, IsStep, refusal_of, Does, AnswersBy, Answers, spent_after, Entry, Moment, Run, IsTable, answers_keep, charge_bound, IsCharged, moves_of, moves_in, IsUndisturbed, IsWithinBound, length, steps_of, steps_in}
 
 -- ---- one answer
 
@@ -81,3 +81,21 @@ run_within t weight table charged start good within (entry ∷ log) end (next, a
     (answers_keep t table start.state good start.spent entry.0 entry.1 next answers)
     (answer_within t weight table charged start good within entry.0 entry.1 next answers)
     log end run
+
+-- ---- a run has at most as many accepted steps as moves
+
+pub some_moves : (moves : List Moved) → moves ≢ [] → 1 ≤ length moves
+some_moves [] some = absurd (some refl)
+some_moves (m ∷ moves) some = omega arith
+
+step_by : (t : RuleTable) (s : State) (n : ℕ) (event : Event) (r : Option Refusal) (reply : Reply) (s' : State) → AnswersBy t s n event r reply s' → steps_of reply ≤ moves_of reply
+step_by t s n event r reply s' answers = grind (arith, some_moves)
+
+pub steps_are_moves : (t : RuleTable) (start : Moment) (log : List Entry) (end : Moment) → Run t start log end → steps_in log ≤ moves_in log
+steps_are_moves t start [] end run = omega arith
+steps_are_moves t start (entry ∷ log) end (next, answers, run) =
+    let first = step_by t start.state start.spent entry.0 (refusal_of t start.state entry.0) entry.1 next answers in
+    let rest = steps_are_moves t (record { state = next; spent = spent_after start.spent entry.1 }) log end run in
+    let steps = sum_by-cons (λ (e : Entry). steps_of e.1) entry log in
+    let moves = sum_by-cons (λ (e : Entry). moves_of e.1) entry log in
+    omega (arith, first, rest, steps, moves)

@@ -1,5 +1,5 @@
 -- The open edges: those open by the stances of their ends, less those that a pointer closes.
-use Rattle.machine_laws.proofs.ChargePrelude.{◌≡◌, ℕ, ◌+◌, Bool, false, cond, not, ◌&&◌, ◌||◌, List, count_by, sum_by, Option, None, Some, is_none, IfSome, IsTrue, nat_eq, nat_lt, sym, ap, ◌∙◌, ⊎_elim, arith, and_parts, and_left, cases_eq, ne_eqb, none-some, linked, names, neighbours, edge_list, State, IsState, is_at, holds_at, pointer, flag, points, married, has_suitor, awaits, is_courted, hsu_huang_closed, manne_closed, points_true, pointer_linked, suitor_linked, null_unmarried, unanswered_unmarried, if_some_from, linked_present, option_cases, hsu_huang_apart, hsu_huang_closes, manne_apart, manne_closes}
+use Rattle.machine_laws.proofs.ChargePrelude.{◌≡◌, ℕ, ◌+◌, Bool, false, cond, not, ◌&&◌, ◌||◌, List, count_by, sum_by, Option, None, Some, is_none, IfSome, IsTrue, nat_eq, nat_lt, ap, ◌∙◌, arith, and_parts, none-some, linked, names, neighbours, edge_list, State, IsState, is_at, holds_at, pointer, flag, points, married, has_suitor, awaits, is_courted, hsu_huang_closed, manne_closed, points_true, pointer_linked, suitor_linked, null_unmarried, unanswered_unmarried, if_some_from, linked_present, option_cases, hsu_huang_apart, hsu_huang_closes, manne_apart, manne_closes}
 use Rattle.machine_laws.proofs.ListCounts.{IsIn, IsWithoutRepeats, sum_add, sum_agree, count_agree}
 use Rattle.machine_laws.proofs.Members.{in_names, names_without_repeats}
 use Rattle.machine_laws.proofs.EdgesByNodes.{zeros, marked_once, count_filter, edges_by_nodes}
@@ -14,7 +14,7 @@ at_once None test xs at single = zeros xs
 at_once (Some x) test xs at single = count_agree (λ w. nat_eq x w && test w) (λ w. nat_eq x w && test x) same xs ∙ marked_once x (test x) xs at single
   where
     same : (w : ℕ) → (nat_eq x w && test w) ≡ (nat_eq x w && test x)
-    same w = ⊎_elim (λ e. ap (λ y. nat_eq x w && test y) (sym e)) (λ apart. let none = ne_eqb x w apart in and_left (nat_eq x w) (test w) none ∙ sym (and_left (nat_eq x w) (test x) none)) (cases_eq x w)
+    same w = grind arith
 
 -- among the neighbours that pass a test, v's target is one if it passes
 pub target_counted : (s : State) → IsState s → (test : ℕ → Bool) (v : ℕ) → count_by (λ w. points s.registers v w && test w) (neighbours s.network v) ≡ cond (holds_at test (pointer s v)) 1 0
@@ -97,5 +97,4 @@ closing_by_targets s good closes null =
     omega (arith, at_targets, at_nodes, each)
   where
     at_pointer : (v : ℕ) → holds_at (λ w. closes v) (pointer s v) ≡ closes v
-    at_pointer v =
-        ⊎_elim (λ none. ap (holds_at (λ w. closes v)) none ∙ sym (null v none)) (λ some. ap (holds_at (λ w. closes v)) some.1) (option_cases (pointer s v))
+    at_pointer v = grind (arith, null v, option_cases)

@@ -1,5 +1,5 @@
 -- How many pairs of a set pass a test after a pair is added or removed.
-use Rattle.machine_laws.proofs.ChargePrelude.{◌≡◌, ℕ, ◌+◌, ◌≤◌, Bool, true, false, cond, not, ◌&&◌, Option, None, Some, is_some, List, [], ◌∷◌, count_by, refl, sym, ap, ◌∙◌, arith, is_eq, eq_by_cmp, Ordering, Less, Equal, Greater, by_order, put, eq_by_cmp_equiv, length-map, sum_by-cons, count_by-le-length, PairSet, pair_cmp, pair_total, pair_exact, contains-remove}
+use Rattle.machine_laws.proofs.ChargePrelude.{◌≡◌, ℕ, ◌+◌, ◌≤◌, Bool, true, false, cond, not, ◌&&◌, Some, is_some, List, [], ◌∷◌, count_by, sym, ap, ◌∙◌, arith, is_eq, Ordering, by_order, put, eq_by_cmp_equiv, length-map, sum_by-cons, count_by-le-length, PairSet, pair_cmp, pair_total, pair_exact, contains-remove, tells_apart, Less, Equal, Greater}
 use Rattle.std.proofs.Common.{map as list_map}
 use Rattle.std.specs.FinMap as map
 use Rattle.std.specs.FinMap.Entries.{find}
@@ -35,17 +35,7 @@ taken_out s k = contains-remove s k k ∙ ap (λ b. not b && map.contains_key s 
 -- a pair that is removed and added again was there before
 put_back : (s : PairSet) (k : ℕ × ℕ) → map.contains_key s k ≡ true → map.insert (map.remove s k) k tt ≡ s
 put_back s k there =
-    map.same_map pair_total pair_exact (map.insert (map.remove s k) k tt) s
-    (λ q.
-    map.get-insert pair_total (map.remove s k) k tt q
-    ∙ ap (cond (eq_by_cmp pair_cmp q k) (Some tt)) (map.get-remove pair_total s k q)
-    ∙ go q (eq_by_cmp pair_cmp q k) refl)
-  where
-    marked : (x : Option (Unit {0})) → is_some x ≡ true → Some tt ≡ x
-    marked x h = grind arith
-
-    go : (q : ℕ × ℕ) (b : Bool) → eq_by_cmp pair_cmp q k ≡ b → cond b (Some tt) (cond b None (map.get s q)) ≡ map.get s q
-    go q b same = grind arith
+    map.same_map pair_total pair_exact (map.insert (map.remove s k) k tt) s (λ q. grind (arith, map.get-insert pair_total (map.remove s k) k tt q, map.get-remove pair_total s k q, tells_apart))
 
 -- A set with one pair less has that pair less to count, if it passes.
 pub count_without : (p : ℕ × ℕ → Bool) (s : PairSet) (k : ℕ × ℕ) → map.contains_key s k ≡ true → count_by p (map.keys s) ≡ count_by p (map.keys (map.remove s k)) + cond (p k) 1 0

@@ -34,11 +34,8 @@ pub still_removed : (m : PairSet) (k q : ℕ × ℕ) → (q ≡ k → ⊥) → I
 still_removed m k q apart h = grind (arith, contains-remove, and_from, tells_apart, cases_Bool)
 
 -- an edge is the same from either end
-pub edge_comm : (a b : ℕ) → edge a b ≡ edge b a
-edge_comm a b = grind arith
-
 pub linked_comm : (net : Network) (a b : ℕ) → linked net a b ≡ linked net b a
-linked_comm net a b = ap (map.contains_key net.edges) (edge_comm a b)
+linked_comm net a b = grind arith
 
 -- both ends of an edge are nodes
 pub linked_present : (net : Network) (a b : ℕ) → IsNetwork net → IsTrue (linked net a b) → IsTrue (present net b)

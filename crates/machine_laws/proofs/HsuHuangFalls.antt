@@ -23,11 +23,12 @@ pub record IsSolo (p p' : ℕ → Option ℕ) (x : ℕ) : Type 0 where
   pub turn : SoloTurn p p' x
 
 -- a pair stays one
+solo_keeps : (p p' : ℕ → Option ℕ) (x : ℕ) → IsSolo p p' x → (v w : ℕ) → p v ≡ Some w → p w ≡ Some v → p' v ≡ Some w
+solo_keeps p p' x solo v w at back = grind (arith, cases_eq)
+
 pub paired_stays : (p p' : ℕ → Option ℕ) (x : ℕ) → IsSolo p p' x → (v : ℕ) → IsTrue (is_paired (stance p v)) → stance p' v ≡ Paired
-paired_stays p p' x solo v h = let pair = paired_is p v h in paired_from p' v pair.0 (kept v pair.0 pair.1 pair.2) (kept pair.0 v pair.2 pair.1)
-  where
-    kept : (a b : ℕ) → p a ≡ Some b → p b ≡ Some a → p' a ≡ Some b
-    kept a b at back = grind (arith, cases_eq)
+paired_stays p p' x solo v h =
+    let pair = paired_is p v h in paired_from p' v pair.0 (solo_keeps p p' x solo v pair.0 pair.1 pair.2) (solo_keeps p p' x solo pair.0 v pair.2 pair.1)
 
 -- one move is of one node
 pub one_mover : (moves : List Moved) → length moves ≡ 1 → (x : ℕ) × ((v : ℕ) → IsTrue (is_mover_in moves v) → v ≡ x) × IsTrue (is_mover_in moves x)
@@ -76,11 +77,8 @@ shut_swap : (p : ℕ → Option ℕ) (m c : ℕ → Bool) (a b : ℕ) → shut p
 shut_swap p m c a b = grind arith
 
 module _ (p p' : ℕ → Option ℕ) (m m' c c' : ℕ → Bool) (x : ℕ) (old : IsSeen p m c) (new : IsSeen p' m' c') (solo : IsSolo p p' x) where
-  kept : (v w : ℕ) → p v ≡ Some w → p w ≡ Some v → p' v ≡ Some w
-  kept v w at back = grind (arith, cases_eq)
-
   married_stays : (v : ℕ) → m v ≡ true → m' v ≡ true
-  married_stays v h = let pair = old.wed v h in new.weds v pair.0 (kept v pair.0 pair.1 pair.2) (kept pair.0 v pair.2 pair.1)
+  married_stays v h = let pair = old.wed v h in new.weds v pair.0 (solo_keeps p p' x solo v pair.0 pair.1 pair.2) (solo_keeps p p' x solo pair.0 v pair.2 pair.1)
 
   courted_stays : (v u : ℕ) → p v ≡ None → p u ≡ Some v → ((p' v ≡ None) × (p' u ≡ Some v)) ⊎ (m' v ≡ true)
   courted_stays v u null suitor = grind (arith, cases_eq)

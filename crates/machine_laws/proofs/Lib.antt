@@ -38,7 +38,6 @@ pub mod HsuHuangFalls
 pub mod ManneFalls
 pub mod Tables
 pub mod ChargesOfRuns
-pub mod Steps
 pub mod Epochs
 pub mod RunsFromBases
 pub mod ClosedByPointers

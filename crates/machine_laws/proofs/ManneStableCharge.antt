@@ -1,5 +1,5 @@
 -- The rest of Manne's charge in a stable network: one for each node that is in no pair.
-use Rattle.machine_laws.proofs.ChargePrelude.{◌≡◌, ℕ, ◌+◌, ◌*◌, ◌≤◌, Bool, true, cond, not, ◌&&◌, List, [], ◌∷◌, length, filter_map, count_by, nat_lt, Option, None, Some, false, is_some, IsTrue, refl, sym, ap, ◌∙◌, arith, not_from_true, names, neighbours, edge_list, node_count, State, IsState, is_at, holds_at, pointer, points, flag, partner, married, manne_closed, manne_node_charge, manne_charge, IsStable, pair_above, mutual_pairs, partner_some, partner_from, or_left, or_right, ◌||◌}
+use Rattle.machine_laws.proofs.ChargePrelude.{◌≡◌, ℕ, ◌+◌, ◌*◌, ◌≤◌, Bool, true, cond, not, ◌&&◌, List, [], ◌∷◌, length, filter_map, count_by, nat_lt, Option, None, Some, is_some, IsTrue, refl, sym, ap, ◌∙◌, arith, not_from_true, names, neighbours, edge_list, node_count, State, IsState, is_at, holds_at, pointer, points, flag, partner, married, manne_closed, manne_node_charge, manne_charge, IsStable, pair_above, mutual_pairs, partner_some, partner_from, or_left, or_right, ◌||◌}
 use Rattle.machine_laws.proofs.ListCounts.{count_cons, count_not, count_agree, sum_agree, sum_agree_in, sum_le, none_count}
 use Rattle.machine_laws.proofs.Members.{names_present, names_len}
 use Rattle.machine_laws.proofs.EdgesByNodes.{edges_by_nodes}
@@ -43,18 +43,12 @@ lower_at s v good =
     ∙ target_counted s good (λ w. nat_lt v w && points s.registers w v) v
     ∙ ap bit (sym (at (pointer s) (partner s v) (partner_some s v) (λ w. partner_from s v w good)))
   where
-    miss : (p : ℕ → Option ℕ) → ((w : ℕ) → p v ≡ Some w → p w ≡ Some v → None ≡ Some w) → false ≡ holds_at (λ w. nat_lt v w && is_at (p w) v) (p v)
-    miss p from = grind arith
-
-    hit : (p : ℕ → Option ℕ) (x : ℕ) → p v ≡ Some x → p x ≡ Some v → is_some (pair_above v (Some x)) ≡ holds_at (λ w. nat_lt v w && is_at (p w) v) (p v)
-    hit p x there back = grind arith
-
     order : (l p q : Bool) → (l && (p && q)) ≡ (p && (l && q))
     order l p q = grind arith
 
     at : (p : ℕ → Option ℕ) (o : Option ℕ) → ((w : ℕ) → o ≡ Some w → (p v ≡ Some w) × (p w ≡ Some v)) → ((w : ℕ) → p v ≡ Some w → p w ≡ Some v → o ≡ Some w) → is_some (pair_above v o) ≡ holds_at (λ w. nat_lt v w && is_at (p w) v) (p v)
-    at p None some from = miss p from
-    at p (Some x) some from = hit p x (some x refl).0 (some x refl).1
+    at p None some from = grind arith
+    at p (Some x) some from = let pair = some x refl in grind arith
 
 -- Each pair has two married nodes, and each married node is in one.
 pub married_twice : (s : State) → IsState s → count_by (married s) (names s.network) ≡ 2 * length (mutual_pairs s)

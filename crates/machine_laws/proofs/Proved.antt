@@ -7,7 +7,7 @@ use Rattle.machine_laws.proofs.PresentMovers.{hsu_huang_inside, manne_inside}
 use Rattle.machine_laws.proofs.NodeMoves.{IsInside}
 use Rattle.machine_laws.proofs.Tables.{hsu_huang_table, manne_table, hsu_huang_flagless, manne_flagless}
 use Rattle.machine_laws.proofs.Laws as of_runs
-use Rattle.machine_laws.proofs.Steps.{steps_are_moves}
+use Rattle.machine_laws.proofs.ChargesOfRuns.{steps_are_moves}
 use Rattle.machine_laws.proofs.Epochs.{opening_epochs_are_bounded}
 use Rattle.machine_laws.proofs.RunsFromBases as begun
 use Rattle.machine_laws.proofs.CostsOfRuns.{IsCosted, path_costs, hsu_huang_costed, manne_costed}

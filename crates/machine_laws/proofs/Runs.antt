@@ -10,7 +10,7 @@ is_target_allowed t s v act wish target is x at = grind arith
 move_of_is_move_in : (t : RuleTable) → IsTable t → (s : State) (item : Item) (m : Moved) → IsTrue (present s.network item.node) → IsMoveOf t s item m → IsMoveIn s.network m
 move_of_is_move_in t table s item m has is = grind (arith, is_target_allowed)
 
-asked_is_move_in : (t : RuleTable) → IsTable t → (s : State) (items : List Item) → IsStepChoice t s items → (m : Moved) → Any (λ item. IsMoveOf t s item m) items → IsMoveIn s.network m
+pub asked_is_move_in : (t : RuleTable) → IsTable t → (s : State) (items : List Item) → IsStepChoice t s items → (m : Moved) → Any (λ item. IsMoveOf t s item m) items → IsMoveIn s.network m
 asked_is_move_in t table s items choice m (k, item, below, at, is) =
     let taken = taken_at t s [] items choice.taken k item below in
     move_of_is_move_in t table s item m (subst (λ i. IsTrue (present s.network i.node)) at taken.0.has) is

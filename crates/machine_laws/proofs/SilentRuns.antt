@@ -1,11 +1,11 @@
 -- A run that is long enough ends silent. If each turn moves a node or is made in a silent network, the
 -- network is silent after as many turns as the budget. A budget is any bound that moves use up.
-use Rattle.machine_laws.proofs.ChargePrelude.{◌≡◌, ◌≢◌, ℕ, suc, ◌-◌, ◌≤◌, List, [], ◌∷◌, length, All, Any, None, Some, IsTrue, refl, sym, ap, subst, ⊎_elim, arith, true≢false, All-head, All-tail, Act, Item, Moved, Event, Reply, Accepted, present, State, IsState, RuleTable, rule_at, enabled_names, IsMoveOf, IsStep, Answers, spent_after, Entry, Moment, no_act, quiet_at, quiet_from, IsTable, find_passes, option_cases, answers_keep, IsCharged, moves_of, IsUndisturbed, end_of_path, path_entries, IsPath, IsDriven}
+use Rattle.machine_laws.proofs.ChargePrelude.{◌≡◌, ◌≢◌, ℕ, suc, ◌-◌, ◌≤◌, List, [], ◌∷◌, length, All, Any, None, Some, IsTrue, refl, sym, ap, subst, ⊎_elim, arith, true≢false, All-head, All-tail, Act, Item, Moved, Reply, Accepted, present, State, IsState, RuleTable, rule_at, enabled_names, IsMoveOf, IsStep, spent_after, Entry, Moment, no_act, quiet_at, quiet_from, IsTable, find_passes, option_cases, answers_keep, IsCharged, moves_of, IsUndisturbed, end_of_path, path_entries, IsPath, IsDriven}
 use Rattle.machine_laws.proofs.NodeMoves.{IsInside}
 use Rattle.machine_laws.proofs.ChargesOfRuns.{Effect, rests, steps, disturbs, effect}
 use Rattle.machine_laws.proofs.LeastAnswers.{least_step}
 use Rattle.machine_laws.proofs.AcceptedEvents.{IsStepChoice}
-use Rattle.machine_laws.proofs.Steps.{some_moves}
+use Rattle.machine_laws.proofs.ChargesOfRuns.{some_moves}
 
 -- from a state within n, a step has at most n moves, and the state after the step is within n minus these
 -- moves
@@ -45,19 +45,16 @@ no_step t inside s good quiet items (m ∷ moves) some each = by_item (All-head 
     by_item : Any (λ item. IsMoveOf t s item m) items → ⊥
     by_item h0 = grind (arith, find_passes, true≢false, quiet_at)
 
-quiet_answer : (t : RuleTable) → IsInside t → (s : State) → IsState s → enabled_names t s ≡ [] → (n : ℕ) (event : Event) (reply : Reply) (s' : State) → Answers t s n event reply s' → reply ≢ Accepted → s' ≡ s
-quiet_answer t inside s good quiet n event reply s' answers calm = by_effect (effect t s n event reply s' answers)
-  where
-    by_effect : Effect t s reply s' → s' ≡ s
-    by_effect (rests same none keeps) = same
-    by_effect (steps items moves is step) = absurd (no_step t inside s good quiet items moves step.some step.each)
-    by_effect (disturbs is) = absurd (calm is)
+quiet_effect : (t : RuleTable) → IsInside t → (s : State) → IsState s → enabled_names t s ≡ [] → (reply : Reply) (s' : State) → reply ≢ Accepted → Effect t s reply s' → s' ≡ s
+quiet_effect t inside s good quiet reply s' calm (rests same none keeps) = same
+quiet_effect t inside s good quiet reply s' calm (steps items moves is step) = absurd (no_step t inside s good quiet items moves step.some step.each)
+quiet_effect t inside s good quiet reply s' calm (disturbs is) = absurd (calm is)
 
 -- a silent network stays silent without a disturbance
 pub quiet_stays : (t : RuleTable) → IsTable t → IsInside t → (start : Moment) → IsState start.state → enabled_names t start.state ≡ [] → (path : List (Entry × State)) → IsPath t start path → IsUndisturbed (path_entries path) → enabled_names t (end_of_path start.state path) ≡ []
 quiet_stays t table inside start good quiet [] is calm = quiet
 quiet_stays t table inside start good quiet (turn ∷ path) (answers, is) calm =
-    let same = quiet_answer t inside start.state good quiet start.spent turn.0.0 turn.0.1 turn.1 answers (All-head (λ e. e.1 ≢ Accepted) turn.0 (path_entries path) calm) in
+    let same = quiet_effect t inside start.state good quiet turn.0.1 turn.1 (All-head (λ e. e.1 ≢ Accepted) turn.0 (path_entries path) calm) (effect t start.state start.spent turn.0.0 turn.0.1 turn.1 answers) in
     quiet_stays t table inside (record { state = turn.1; spent = spent_after start.spent turn.0.1 })
     (answers_keep t table start.state good start.spent turn.0.0 turn.0.1 turn.1 answers)
     (subst (λ (u : State). enabled_names t u ≡ []) (sym same) quiet)
@@ -65,16 +62,11 @@ quiet_stays t table inside start good quiet (turn ∷ path) (answers, is) calm =
 
 -- ---- long enough
 
-spends_one : (t : RuleTable) (within : State → ℕ → Type 0) → IsBudget t within → (s : State) → IsState s → (n left : ℕ) (event : Event) (reply : Reply) (s' : State) → Answers t s n event reply s' → reply ≢ Accepted → 1 ≤ moves_of reply → within s (suc left) → within s' left
-spends_one t within budget s good n left event reply s' answers calm moved has = by_effect (effect t s n event reply s' answers)
-  where
-    by_effect : Effect t s reply s' → within s' left
-    by_effect (rests same none keeps) = absurd (omega (arith, moved, none))
-    by_effect (steps items moves is step) =
-        let count = ap moves_of is in
-        let spends = budget.spends s (suc left) items moves s' good has step in
-        budget.more s' (suc left - length moves) left spends.1 (omega (arith, count, moved))
-    by_effect (disturbs is) = absurd (calm is)
+spends_one : (t : RuleTable) (within : State → ℕ → Type 0) → IsBudget t within → (s : State) → IsState s → (left : ℕ) (reply : Reply) (s' : State) → reply ≢ Accepted → 1 ≤ moves_of reply → within s (suc left) → Effect t s reply s' → within s' left
+spends_one t within budget s good left reply s' calm moved has (rests same none keeps) = absurd (omega (arith, moved, none))
+spends_one t within budget s good left reply s' calm moved has (steps items moves is step) =
+    budget.more s' (suc left - length moves) left (budget.spends s (suc left) items moves s' good has step).1 (omega (arith, ap moves_of is, moved))
+spends_one t within budget s good left reply s' calm moved has (disturbs is) = absurd (calm is)
 
 pub driven_is_quiet : (t : RuleTable) (within : State → ℕ → Type 0) → IsTable t → IsInside t → IsBudget t within → (start : Moment) → IsState start.state → (path : List (Entry × State)) → IsPath t start path → IsUndisturbed (path_entries path) → IsDriven t start.state path → within start.state (length path) → enabled_names t (end_of_path start.state path) ≡ []
 driven_is_quiet t within table inside budget start good [] is calm driven has = spent_is_quiet t within table budget start.state good has
@@ -83,6 +75,6 @@ driven_is_quiet t within table inside budget start good (turn ∷ path) (answers
     (λ moved. driven_is_quiet t within table inside budget (record { state = turn.1; spent = spent_after start.spent turn.0.1 })
     (answers_keep t table start.state good start.spent turn.0.0 turn.0.1 turn.1 answers)
     path is (All-tail (λ e. e.1 ≢ Accepted) turn.0 (path_entries path) calm) driven
-    (spends_one t within budget start.state good start.spent (length path) turn.0.0 turn.0.1 turn.1 answers (All-head (λ e. e.1 ≢ Accepted) turn.0 (path_entries path) calm) moved (budget.more start.state (length (turn ∷ path)) (suc (length path)) has (omega arith))))
+    (spends_one t within budget start.state good (length path) turn.0.1 turn.1 (All-head (λ e. e.1 ≢ Accepted) turn.0 (path_entries path) calm) moved (budget.more start.state (length (turn ∷ path)) (suc (length path)) has (omega arith)) (effect t start.state start.spent turn.0.0 turn.0.1 turn.1 answers)))
     (λ quiet. quiet_stays t table inside start good quiet (turn ∷ path) (answers, is) calm)
     goes

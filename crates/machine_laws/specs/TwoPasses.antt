@@ -2,7 +2,7 @@
 -- pointers.
 use Rattle.std.specs.Prelude.{◌≡◌, ℕ, Bool, Option, None, Some, IsTrue}
 use Rattle.rule_machine.specs.declared.act.Act.{Act}
-use Rattle.rule_machine.specs.declared.act.Act.TheVariants.{Update, Marry, Seduce, Abandon}
+use Rattle.rule_machine.specs.declared.act.Act.TheVariants.{Update, Abandon}
 use Rattle.rule_machine.specs.declared.act.Moved.{Moved}
 use Rattle.rule_machine.specs.Network.{Network, linked, present}
 use Rattle.rule_machine.specs.State.{Registers, pointer_of, with_pointer, with_flag, holds_at, points}
@@ -19,9 +19,7 @@ is_answered_at r v = holds_at (λ w. points r w v) (pointer_of r v)
 -- the registers after a move's flag, computed from these registers, is written
 abbrev pub flag_read_by : Registers → ℕ → Act → Registers
 flag_read_by r v Update = with_flag r v (is_answered_at r v)
-flag_read_by r v Marry = r
-flag_read_by r v Seduce = r
-flag_read_by r v Abandon = r
+flag_read_by r v act = r
 
 abbrev pub flag_read : Registers → Moved → Registers
 flag_read r m = flag_read_by r m.node m.act
@@ -29,9 +27,8 @@ flag_read r m = flag_read_by r m.node m.act
 -- the registers after a move's pointer is written
 abbrev pub pointer_by : Registers → ℕ → Act → Option ℕ → Registers
 pointer_by r v Update target = r
-pointer_by r v Marry target = with_pointer r v target
-pointer_by r v Seduce target = with_pointer r v target
 pointer_by r v Abandon target = with_pointer r v None
+pointer_by r v act target = with_pointer r v target
 
 abbrev pub pointer_written : Registers → Moved → Registers
 pointer_written r m = pointer_by r m.node m.act m.target
