@@ -1,8 +1,7 @@
 -- The bits of a word.
-use Rattle.enabled_set.proofs.Prelude.{◌≡◌, ℕ, zero, suc, ◌+◌, ◌-◌, ◌*◌, ◌/◌, ◌%◌, ◌^◌, ◌<◌, Bool, true, false, sym, ap, ◌∙◌, arith, ◌≢◌, bit_and, bit_or, count_ones, nat_eq, bit_at, w64, trailing_zeros, mod-lt, shr-shr, mod-pow-add, ones_cat, one_shl, and_mask, pow_pos, ones_le_self, zero_from_ones, shr_and_one, bit_at-zero, bit_at_set_same, bit_at_set_other, bit_at_clear_same, bit_at_clear_other, bit_at-trailing_zeros, bit_at-lt, tally}
+use Rattle.enabled_set.proofs.Prelude.{◌≡◌, ℕ, zero, suc, ◌+◌, ◌-◌, ◌*◌, ◌/◌, ◌%◌, ◌^◌, ◌<◌, ◌≤◌, true, false, sym, ap, ◌∙◌, arith, ◌≢◌, bit_and, bit_or, count_ones, nat_eq, bit_at, w64, trailing_zeros, mod-lt, shr-shr, mod-pow-add, ones_cat, one_shl, and_mask, pow_pos, ones_le_self, zero_from_ones, bit_at-zero, bit_at_set_same, bit_at_set_other, bit_at_clear_same, bit_at_clear_other, bit_at-trailing_zeros, bit_at-lt, tally}
 use Rattle.enabled_set.specs.Members.{has_bit}
-use Rattle.enabled_set.proofs.PassCounts.{tally_none, tally_more, tally_shift}
-use Rattle.enabled_set.proofs.Steps.{tally_on, tally_off}
+use Rattle.enabled_set.proofs.PassCounts.{tally_add, tally_more, tally_none, tally_shift}
 
 pub has_one : (word i : ℕ) → bit_at word i ≡ 1 → has_bit word i ≡ true
 unfolding has_bit
@@ -12,26 +11,21 @@ pub has_none : (word i : ℕ) → bit_at word i ≡ 0 → has_bit word i ≡ fal
 unfolding has_bit
 has_none word i h = ap (λ n. nat_eq n 1) h
 
-pub has_same : (word other i : ℕ) → bit_at word i ≡ bit_at other i → has_bit word i ≡ has_bit other i
-unfolding has_bit
-has_same word other i h = ap (λ n. nat_eq n 1) h
-
--- the bit that was read
-pub has_read : (word at : ℕ) → nat_eq (bit_and (word / 2 ^ at) 1) 1 ≡ has_bit word at
-unfolding has_bit
-has_read word at = ap (λ n. nat_eq n 1) (shr_and_one word at)
-
 pub with_here : (word at : ℕ) → at < 64 → has_bit (bit_or word (1 * 2 ^ at % 18446744073709551616)) at ≡ true
-with_here word at within = has_one (bit_or word (1 * 2 ^ at % 18446744073709551616)) at (bit_at_set_same w64 word at within)
+unfolding has_bit
+with_here word at within = ap (λ n. nat_eq n 1) (bit_at_set_same w64 word at within)
 
 pub with_others : (word at i : ℕ) → at < 64 → i ≢ at → has_bit (bit_or word (1 * 2 ^ at % 18446744073709551616)) i ≡ has_bit word i
-with_others word at i within apart = has_same (bit_or word (1 * 2 ^ at % 18446744073709551616)) word i (bit_at_set_other w64 word at within i apart)
+unfolding has_bit
+with_others word at i within apart = ap (λ n. nat_eq n 1) (bit_at_set_other w64 word at within i apart)
 
 pub without_here : (word at : ℕ) → at < 64 → has_bit (bit_and word (18446744073709551615 - 1 * 2 ^ at % 18446744073709551616)) at ≡ false
-without_here word at within = has_none (bit_and word (18446744073709551615 - 1 * 2 ^ at % 18446744073709551616)) at (bit_at_clear_same w64 word at within)
+unfolding has_bit
+without_here word at within = ap (λ n. nat_eq n 1) (bit_at_clear_same w64 word at within)
 
 pub without_others : (word at i : ℕ) → at < 64 → i < 64 → i ≢ at → has_bit (bit_and word (18446744073709551615 - 1 * 2 ^ at % 18446744073709551616)) i ≡ has_bit word i
-without_others word at i within inside apart = has_same (bit_and word (18446744073709551615 - 1 * 2 ^ at % 18446744073709551616)) word i (bit_at_clear_other w64 word at within i inside apart)
+unfolding has_bit
+without_others word at i within inside apart = ap (λ n. nat_eq n 1) (bit_at_clear_other w64 word at within i inside apart)
 
 -- the bits from a place on
 shifted : (word from i : ℕ) → bit_at (word / 2 ^ from) i ≡ bit_at word (from + i)
@@ -76,13 +70,12 @@ ones_low word (suc n) =
 pub ones_of : (word : ℕ) → word < 18446744073709551616 → count_ones word ≡ tally (has_bit word) 64
 ones_of word fits = let e : word % 2 ^ 64 ≡ word = omega arith in ap count_ones (sym e) ∙ ones_low word 64
 
+pub ones_few : (word : ℕ) → word < 18446744073709551616 → count_ones word ≤ 64
+ones_few word fits = omega (arith, ones_of word fits, tally_add (has_bit word) 0 64 64 (omega arith), tally_none (has_bit word))
+
 -- the ones among some places from one on
 pub ones_there : (word at width : ℕ) → width < 64 → tally (has_bit word) (at + width) ≡ tally (has_bit word) at + count_ones (bit_and (word / 2 ^ at) (1 * 2 ^ width % 18446744073709551616 - 1))
 ones_there word at width less =
     let mask : bit_and (word / 2 ^ at) (1 * 2 ^ width % 18446744073709551616 - 1) ≡ (word / 2 ^ at) % 2 ^ width = ap (λ m. bit_and (word / 2 ^ at) (m - 1)) (one_shl width 64 less) ∙ and_mask (word / 2 ^ at) width in
     tally_shift (has_bit word) (has_bit (word / 2 ^ at)) at width (λ i low. sym (shifted_bit word at i))
     ∙ ap (λ n. tally (has_bit word) at + n) (sym (ones_low (word / 2 ^ at) width) ∙ ap count_ones (sym mask))
-
--- if one place has more members than remain to be skipped, it has one and none remains to be skipped
-pub last : (p : ℕ → Bool) (n left : ℕ) → tally p n + left < tally p (n + 1) → (p n ≡ true) × (left ≡ 0)
-last p n left less = grind (arith, tally_on, tally_off)

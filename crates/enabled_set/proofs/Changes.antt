@@ -1,11 +1,10 @@
 -- One member more, and one less.
-use Rattle.enabled_set.proofs.Prelude.{◌≡◌, ℕ, zero, suc, ◌+◌, ◌-◌, ◌*◌, ◌/◌, ◌%◌, ◌<◌, ◌≤◌, Bool, true, false, List, length, get_or, set, replicate, sym, ap, subst, ◌∙◌, arith, ◌≢◌, length-set, length-replicate, get_or_read, set-get_or, is_in, has_bit, first_bits, tally, before, AreBlockCounts, HasRightCounts}
+use Rattle.enabled_set.proofs.Prelude.{◌≡◌, ℕ, zero, suc, ◌+◌, ◌-◌, ◌*◌, ◌/◌, ◌%◌, ◌<◌, ◌≤◌, Bool, false, cond, List, length, get_or, set, replicate, sym, ap, subst, ◌∙◌, arith, ◌≢◌, get_or-set_other, get_or-set_same, length-set, length-replicate, get_or_read, set-get_or, is_in, has_bit, first_bits, tally, before, AreBlockCounts, HasRightCounts}
 use Rattle.enabled_set.specs.Members.{is_bit_on}
-use Rattle.enabled_set.proofs.PassCounts.{tally_add, tally_through, tally_put, tally_flat, tally_none}
-use Rattle.enabled_set.proofs.Before.{before_none, before_more}
+use Rattle.enabled_set.proofs.PassCounts.{before_more, before_none, tally_add, tally_flat, tally_none, tally_set, tally_through}
 use Rattle.enabled_set.proofs.Places.{length-places_of, places_are, put_here, put_there, on_none}
 use Rattle.enabled_set.proofs.Sums.{everywhere}
-use Rattle.enabled_set.proofs.Stretches.{stretch_there, count_more, count_less, on_here, same_there}
+use Rattle.enabled_set.proofs.Stretches.{count_put, stretch_there}
 
 -- the count that was read
 pub count_read : (bits : List Bool) (w : ℕ) (counts : List ℕ) (v n : ℕ) → 0 < w → AreBlockCounts bits w counts → v < length bits → n ≡ get_or counts (v / w) n → n ≡ get_or counts (v / w) 0
@@ -20,49 +19,25 @@ bit_read bits words s l total v read good there is = grind (arith, get_or_read)
 pub put_same : (bits : List Bool) (v : ℕ) (b : Bool) → is_in bits v ≡ b → bits ≡ set bits v b
 put_same bits v b is = sym (set-get_or bits v false) ∙ ap (λ x. set bits v x) is
 
--- a name that is a member, or is to be one, is not 0
-pub somebody : (bits : List Bool) (v : ℕ) → is_in bits 0 ≡ false → is_in bits v ≡ true → 1 ≤ v
-somebody bits v nobody on = grind arith
-
 -- there are no more members than places
 pub total_few : (bits : List Bool) → tally (is_in bits) (length bits) ≤ length bits
 total_few bits = let t = tally_add (is_in bits) 0 (length bits) (length bits) (omega arith) in let z = tally_none (is_in bits) in omega arith
 
--- if there is a member, there is at least one
-pub total_some : (bits : List Bool) (v : ℕ) → v < length bits → is_in bits v ≡ true → 1 ≤ tally (is_in bits) (length bits)
-total_some bits v there on = let t = tally_through (is_in bits) 0 v (length bits) on (omega arith) there in omega arith
-
 -- the bits of the changed words
 pub same_put : (bits : List Bool) (words : List ℕ) (v word : ℕ) (b : Bool) → v < length bits → v / 64 < length words → ((u : ℕ) → is_in bits u ≡ is_bit_on words u) → has_bit word (v % 64) ≡ b → ((i : ℕ) → i < 64 → i ≢ (v % 64) → has_bit word i ≡ has_bit (get_or words (v / 64) 0) i) → (u : ℕ) → is_in (set bits v b) u ≡ is_bit_on (set words (v / 64) word) u
-same_put bits words v word b there room same here others u = grind (arith, on_here, put_here, same_there, put_there)
+same_put bits words v word b there room same here others u = grind (arith, get_or-set_same, put_here, get_or-set_other, put_there)
 
--- one member more or less if its counts were changed by one; the lists count the right places
-counted_put : (len : ℕ) (words s l : List ℕ) (total v read word x y left : ℕ) (b : Bool) → HasRightCounts (first_bits len words) words s l total → v < length (first_bits len words) → 1 ≤ v → read ≡ get_or words (v / 64) read → has_bit word (v % 64) ≡ b → ((i : ℕ) → i < 64 → i ≢ (v % 64) → has_bit word i ≡ has_bit read i) → AreBlockCounts (set (first_bits len words) v b) 512 (set s (v / 512) x) → AreBlockCounts (set (first_bits len words) v b) 4096 (set l (v / 4096) y) → tally (is_in (set (first_bits len words) v b)) (length (first_bits len words)) ≡ left → HasRightCounts (first_bits len (set words (v / 64) word)) (set words (v / 64) word) (set s (v / 512) x) (set l (v / 4096) y) left × (first_bits len (set words (v / 64) word) ≡ set (first_bits len words) v b)
-counted_put len words s l total v read word x y left b good there named is here others in_512 in_4096 in_all = grind (arith, length-set, same_put, get_or_read, same_there, places_are, length-places_of)
-
--- one member more
-pub counted_more : (len : ℕ) (words s l : List ℕ) (total v read word x y : ℕ) → HasRightCounts (first_bits len words) words s l total → v < length (first_bits len words) → 1 ≤ v → read ≡ get_or words (v / 64) read → has_bit read (v % 64) ≡ false → has_bit word (v % 64) ≡ true → ((i : ℕ) → i < 64 → i ≢ (v % 64) → has_bit word i ≡ has_bit read i) → x ≡ get_or s (v / 512) x → y ≡ get_or l (v / 4096) y → HasRightCounts (first_bits len (set words (v / 64) word)) (set words (v / 64) word) (set s (v / 512) (x + 1)) (set l (v / 4096) (y + 1)) (total + 1) × (first_bits len (set words (v / 64) word) ≡ set (first_bits len words) v true)
-counted_more len words s l total v read word x y good there named is off here others read_x read_y =
+-- the words and the counts after a name was put in or taken out
+pub counted_put : (len : ℕ) (words s l : List ℕ) (total v read word n x m y left : ℕ) (was b : Bool) → HasRightCounts (first_bits len words) words s l total → v < length (first_bits len words) → 1 ≤ v → read ≡ get_or words (v / 64) read → has_bit read (v % 64) ≡ was → has_bit word (v % 64) ≡ b → ((i : ℕ) → i < 64 → i ≢ (v % 64) → has_bit word i ≡ has_bit read i) → n ≡ get_or s (v / 512) n → x ≡ n + cond b 1 0 - cond was 1 0 → m ≡ get_or l (v / 4096) m → y ≡ m + cond b 1 0 - cond was 1 0 → left ≡ total + cond b 1 0 - cond was 1 0 → HasRightCounts (first_bits len (set words (v / 64) word)) (set words (v / 64) word) (set s (v / 512) x) (set l (v / 4096) y) left × (first_bits len (set words (v / 64) word) ≡ set (first_bits len words) v b)
+counted_put len words s l total v read word n x m y left was b good there named is on here others is_n is_x is_m is_y is_left =
     let bits = first_bits len words in
-    let none = bit_read bits words s l total v read good there is ∙ off in
-    let put = tally_put (is_in bits) (is_in (set bits v true)) v none (on_here bits v true there) (length bits) (λ k low. same_there bits v true k) in
-    let was = good.in_all in
-    counted_put len words s l total v read word (x + 1) (y + 1) (total + 1) true good there named is here others
-    (count_more bits 512 s v x (omega arith) good.in_512 there none (count_read bits 512 s v x (omega arith) good.in_512 there read_x))
-    (count_more bits 4096 l v y (omega arith) good.in_4096 there none (count_read bits 4096 l v y (omega arith) good.in_4096 there read_y))
-    (omega arith)
-
--- one member less
-pub counted_less : (len : ℕ) (words s l : List ℕ) (total v read word x y : ℕ) → HasRightCounts (first_bits len words) words s l total → v < length (first_bits len words) → read ≡ get_or words (v / 64) read → has_bit read (v % 64) ≡ true → has_bit word (v % 64) ≡ false → ((i : ℕ) → i < 64 → i ≢ (v % 64) → has_bit word i ≡ has_bit read i) → x ≡ get_or s (v / 512) x → y ≡ get_or l (v / 4096) y → HasRightCounts (first_bits len (set words (v / 64) word)) (set words (v / 64) word) (set s (v / 512) (x - 1)) (set l (v / 4096) (y - 1)) (total - 1) × (first_bits len (set words (v / 64) word) ≡ set (first_bits len words) v false)
-counted_less len words s l total v read word x y good there is on here others read_x read_y =
-    let bits = first_bits len words in
-    let some = bit_read bits words s l total v read good there is ∙ on in
-    let put = tally_put (is_in (set bits v false)) (is_in bits) v (on_here bits v false there) some (length bits) (λ k low apart. sym (same_there bits v false k apart)) in
-    let was = good.in_all in
-    counted_put len words s l total v read word (x - 1) (y - 1) (total - 1) false good there (somebody bits v good.nobody some) is here others
-    (count_less bits 512 s v x (omega arith) good.in_512 there some (count_read bits 512 s v x (omega arith) good.in_512 there read_x))
-    (count_less bits 4096 l v y (omega arith) good.in_4096 there some (count_read bits 4096 l v y (omega arith) good.in_4096 there read_y))
-    (omega arith)
+    let old = bit_read bits words s l total v read good there is ∙ on in
+    let in_512 = count_put bits 512 s v x b (omega arith) good.in_512 there (grind (arith, count_read bits 512 s v n (omega arith) good.in_512 there is_n)) in
+    let in_4096 = count_put bits 4096 l v y b (omega arith) good.in_4096 there (grind (arith, count_read bits 4096 l v m (omega arith) good.in_4096 there is_m)) in
+    let all = (tally_set bits v b (length bits) there).1 there in
+    let some = tally_through (is_in bits) 0 v (length bits) in
+    let in_all : tally (is_in (set bits v b)) (length bits) ≡ left = grind (arith, good.in_all) in
+    grind (arith, length-set, same_put, get_or_read, get_or-set_other, places_are, length-places_of)
 
 -- zero counts count no member
 before_zeros : (m i : ℕ) → before (replicate m 0) i ≡ 0

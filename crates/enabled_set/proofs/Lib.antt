@@ -2,13 +2,9 @@ pub mod Prelude
 pub mod PassCounts
 pub mod Bits
 pub mod Places
-pub mod Before
 pub mod Stretches
 pub mod Changes
 pub mod Members
-pub mod Steps
-pub mod Halves
-pub mod Passes
 pub mod Nth
 pub mod Sums
 pub mod MarkChanges

@@ -1,28 +1,19 @@
 -- One mark more, and one less.
-use Rattle.enabled_set.proofs.Prelude.{◌≡◌, ℕ, ◌+◌, ◌-◌, ◌<◌, ◌≤◌, Bool, true, false, List, length, get_or, set, replicate, sym, ap, ◌∙◌, ⊎_elim, arith, cases_lt, false_from_ne_true, true≢false, get_or_read, get_or-set_other, get_or-set_same, length-replicate, length-set, is_in, members, tally, AreListed}
-use Rattle.std.proofs.Common.{◌≢◌}
-use Rattle.std.proofs.lemmas.List.{set-get_or}
-use Rattle.enabled_set.proofs.Changes.{tally_nobody, total_few, total_some}
-use Rattle.enabled_set.proofs.PassCounts.{tally_put}
+use Rattle.enabled_set.proofs.Prelude.{◌≡◌, ℕ, ◌+◌, ◌-◌, ◌<◌, ◌≤◌, Bool, true, false, List, length, get_or, set, replicate, sym, ap, ◌∙◌, ◌≢◌, ⊎_elim, arith, cases_lt, false_from_ne_true, true≢false, get_or_read, get_or-set_other, get_or-set_same, length-replicate, length-set, is_in, members, tally, AreListed}
+use Rattle.enabled_set.proofs.Changes.{tally_nobody, total_few}
+use Rattle.enabled_set.proofs.PassCounts.{tally_set, tally_through}
 use Rattle.enabled_set.proofs.Members.{inside, length-members}
-use Rattle.enabled_set.proofs.Stretches.{on_here, same_there}
 
 -- no name is marked
 pub none_listed : (n : ℕ) (bits : List Bool) (names : List ℕ) → 1 ≤ n → n ≤ 65536 → bits ≡ replicate n false → length names ≡ n → AreListed bits names 0
 none_listed n bits names some few empty room = grind (arith, length-replicate, tally, tally_nobody)
 
--- a mark of a marked name changes nothing
-pub marked_already : (bits : List Bool) (v : ℕ) → is_in bits v ≡ true → bits ≡ set bits v true
-marked_already bits v on = sym (ap (set bits v) (sym on) ∙ set-get_or bits v false)
-
 -- if one is not marked, there is room for it
 pub room_left : (bits : List Bool) (names : List ℕ) (count v : ℕ) → AreListed bits names count → v < length bits → is_in bits v ≡ false → count < length bits
 room_left bits names count v listed there off =
-    let put = tally_put (is_in bits) (is_in (set bits v true)) v off (on_here bits v true there) (length bits) (λ k low apart. same_there bits v true k apart) in
-    let most = total_few (set bits v true) in
-    let len = length-set bits v true in
-    let same = ap (tally (is_in (set bits v true))) len in
-    omega (arith, put, there, most, len, same, listed.counted)
+    let put = rw off at ((tally_set bits v true (length bits) there).1 there) in
+    let most = rw length-set at (total_few (set bits v true)) in
+    omega (arith, put, most, listed.counted)
 
 -- there are at most as many as places
 pub all_listed : (bits : List Bool) (names : List ℕ) (count : ℕ) → AreListed bits names count → count ≤ length bits
@@ -32,16 +23,16 @@ all_listed bits names count listed = let most = total_few bits in omega (arith, 
 pub one_listed_more : (bits : List Bool) (names : List ℕ) (count v : ℕ) → AreListed bits names count → v < length bits → is_in bits v ≡ false → AreListed (set bits v true) (set names count v) (count + 1)
 one_listed_more bits names count v listed there off =
     let len = length-set bits v true in
-    let put = tally_put (is_in bits) (is_in (set bits v true)) v off (on_here bits v true there) (length bits) (λ k low apart. same_there bits v true k apart) in
+    let put = rw off at ((tally_set bits v true (length bits) there).1 there) in
     record {
       few = omega (arith, len, listed.few);
       some = omega (arith, len, listed.some);
       room = omega (arith, len, length-set names count v, listed.room);
-      counted = ap (tally (is_in (set bits v true))) len ∙ omega (arith, put, there, listed.counted);
+      counted = ap (tally (is_in (set bits v true))) len ∙ omega (arith, put, listed.counted);
       marked = λ i below.
           ⊎_elim
-          (λ (low : i < count). ap (is_in (set bits v true)) (kept i low) ∙ same_there bits v true (get_or names i 0) (apart i low) ∙ listed.marked i low)
-          (λ (high : count ≤ i). ap (is_in (set bits v true)) (last i (omega (arith, below, high))) ∙ on_here bits v true there)
+          (λ (low : i < count). ap (is_in (set bits v true)) (kept i low) ∙ get_or-set_other bits v (get_or names i 0) true false (apart i low) ∙ listed.marked i low)
+          (λ (high : count ≤ i). ap (is_in (set bits v true)) (last i (omega (arith, below, high))) ∙ get_or-set_same bits v true false there)
           (cases_lt i count);
       once = λ i j less below.
           let low : i < count = omega (arith, less, below) in
@@ -73,7 +64,7 @@ at_end bits names count v some read listed =
     let on = ap (is_in bits) at ∙ listed.marked (count - 1) (omega (arith, some)) in
     let there = inside bits v on in
     let len = length-set bits v false in
-    let put = tally_put (is_in (set bits v false)) (is_in bits) v (on_here bits v false there) on (length bits) (λ k low apart. sym (same_there bits v false k apart)) in
+    let put = rw on at ((tally_set bits v false (length bits) there).1 there) in
     record {
       marked = on;
       there = there;
@@ -81,8 +72,8 @@ at_end bits names count v some read listed =
         few = omega (arith, len, listed.few);
         some = omega (arith, len, listed.some);
         room = omega (arith, len, listed.room);
-        counted = ap (tally (is_in (set bits v false))) len ∙ omega (arith, put, there, listed.counted, some);
-        marked = λ i low. same_there bits v false (get_or names i 0) (λ e. listed.once i (count - 1) low (omega (arith, some)) (e ∙ at)) ∙ listed.marked i (omega (arith, low));
+        counted = ap (tally (is_in (set bits v false))) len ∙ omega (arith, put, listed.counted);
+        marked = λ i low. get_or-set_other bits v (get_or names i 0) false false (λ e. listed.once i (count - 1) low (omega (arith, some)) (e ∙ at)) ∙ listed.marked i (omega (arith, low));
         once = λ i j less low. listed.once i j less (omega (arith, low));
       };
     }
@@ -90,15 +81,11 @@ at_end bits names count v some read listed =
 -- if none is listed, none is marked
 pub none_marked : (bits : List Bool) (names : List ℕ) (count v : ℕ) → count ≡ 0 → AreListed bits names count → is_in bits v ≡ false
 none_marked bits names count v none listed =
-    false_from_ne_true (is_in bits v) (λ on. let some = total_some bits v (inside bits v on) on in omega (arith, some, none, listed.counted))
+    false_from_ne_true (is_in bits v) (λ on. omega (arith, tally_through (is_in bits) 0 v (length bits) on (omega arith) (inside bits v on), none, listed.counted))
 
 -- a set without one of its members has fewer
 pub one_fewer : (bits bits' : List Bool) (v : ℕ) → is_in bits v ≡ true → bits' ≡ set bits v false → length (members bits') < length (members bits)
 one_fewer bits bits' v is cleared =
     let within = inside bits v is in
-    let before = length-members bits in
-    let after = length-members bits' in
-    let places = ap length cleared ∙ length-set bits v false in
-    let same : tally (is_in bits') (length bits') ≡ tally (is_in bits') (length bits) = ap (tally (is_in bits')) places in
-    let less = tally_put (is_in bits') (is_in bits) v (ap (λ l. is_in l v) cleared ∙ get_or-set_same bits v false false within) is (length bits) (λ k low apart. sym (ap (λ l. is_in l k) cleared ∙ get_or-set_other bits v k false false apart)) in
-    omega (arith, before, after, same, less, within)
+    let put = rw is at ((tally_set bits v false (length bits) within).1 within) in
+    rw (cleared, length-members, length-members, length-set) (omega (arith, put))

@@ -1,14 +1,13 @@
 -- From the counts down to the k-th member, and from the words to all members.
-use Rattle.enabled_set.proofs.Prelude.{◌≡◌, ℕ, suc, ◌+◌, ◌-◌, ◌*◌, ◌<◌, ◌≤◌, Bool, true, false, List, [], ◌∷◌, ◌++◌, length, get_or, Option, Some, None, sym, ap, ap₂, subst, ◌∙◌, arith, ⊎_elim, ◌≢◌, slice_get, SomeIff, cases_lt, get_or_past, slice_get_past, is_in, members, has_bit, is_bit_on, HasOnlyNames, tally, below, before, AreBlockCounts, HasRightCounts}
-use Rattle.enabled_set.proofs.PassCounts.{tally_rise, tally_end, tally_shift, tally_put}
+use Rattle.enabled_set.proofs.Prelude.{◌≡◌, ℕ, suc, ◌+◌, ◌-◌, ◌*◌, ◌<◌, ◌≤◌, Bool, true, false, List, [], ◌∷◌, ◌++◌, length, get_or, Option, Some, None, sym, ap, ap₂, subst, ◌∙◌, arith, ⊎_elim, ◌≢◌, slice_get, SomeIff, cases_lt, get_or_past, slice_get_past, is_in, members, has_bit, is_bit_on, HasOnlyNames, tally, before, AreBlockCounts, HasRightCounts}
+use Rattle.enabled_set.specs.Counts.{below}
+use Rattle.enabled_set.proofs.PassCounts.{before_step, below_flat, below_more, tally_end, tally_put, tally_rise, tally_shift}
 use Rattle.enabled_set.proofs.Places.{on_word}
-use Rattle.enabled_set.proofs.Members.{below_true, below_flat, members_below, length-members, nth_member, inside}
-use Rattle.enabled_set.proofs.Changes.{somebody}
-use Rattle.enabled_set.proofs.Steps.{before_step}
+use Rattle.enabled_set.proofs.Members.{length-members, nth_member, inside}
 
 -- a member is a name
 is_name : (bits : List Bool) (words s l : List ℕ) (total v : ℕ) → HasRightCounts bits words s l total → is_in bits v ≡ true → (1 ≤ v) × (v ≤ 65535)
-is_name bits words s l total v good on = grind (arith, inside, somebody)
+is_name bits words s l total v good on = grind (arith, inside)
 
 -- ---- all members of a word
 
@@ -35,7 +34,7 @@ bit_named words place rest list n at names so_far inside on =
 pub listed_up : (words : List ℕ) (place rest : ℕ) (list : List ℕ) (n m : ℕ) → IsListed words place rest list n → n ≤ m → m ≤ 64 → ((i : ℕ) → n ≤ i → i < m → has_bit rest i ≡ false) → list ≡ below (is_bit_on words) (64 * place + m)
 listed_up words place rest list n m so_far up most none =
     so_far.listed
-    ∙ sym (below_flat (is_bit_on words) (64 * place + n) (64 * place + m) (omega arith) (λ k low high.
+    ∙ sym (below_flat (is_bit_on words) (64 * place + n) (m - n) (64 * place + m) (omega arith) (λ k low high.
     let i : ℕ = k - 64 * place in
     let at : k ≡ 64 * place + i = omega (arith, low) in
     ap (is_bit_on words) at ∙ sym (so_far.left i (omega (arith, low)) (omega (arith, high, most))) ∙ none i (omega (arith, low)) (omega (arith, high))))
@@ -47,7 +46,7 @@ listed_more words place rest less at v n list more so_far inside on first off ot
     record {
       within = omega arith;
       listed = new ∙ ap₂ (λ l x. l ++ x ∷ []) (listed_up words place rest list n at so_far behind (omega arith) (λ i low. first i)) name
-          ∙ sym (below_true (is_bit_on words) (64 * place + at) (sym (so_far.left at behind inside) ∙ on))
+          ∙ sym (rw (sym (so_far.left at behind inside) ∙ on) at (below_more (is_bit_on words) (64 * place + at)))
           ∙ ap (below (is_bit_on words)) (let e : suc (64 * place + at) ≡ 64 * place + (at + 1) = omega arith in e);
       gone = λ i below.
           ⊎_elim
@@ -60,13 +59,14 @@ listed_more words place rest less at v n list more so_far inside on first off ot
 -- so fewer bits are left
 pub bits_fewer : (rest less at : ℕ) → at < 64 → has_bit rest at ≡ true → has_bit less at ≡ false → ((i : ℕ) → i < 64 → i ≢ at → has_bit less i ≡ has_bit rest i) → tally (has_bit less) 64 < tally (has_bit rest) 64
 bits_fewer rest less at inside on off others =
-    let put = tally_put (has_bit less) (has_bit rest) at off on 64 (λ i within apart. sym (others i within apart)) in omega arith
+    let put = rw on at ((tally_put (has_bit rest) (has_bit less) at 64 false off others).1 inside) in omega (arith, put)
 
 -- all words have all members
 pub below_all : (bits : List Bool) (words s l : List ℕ) (total n : ℕ) → HasRightCounts bits words s l total → 64 * length words ≤ n → below (is_bit_on words) n ≡ members bits
+unfolding below
 below_all bits words s l total n good most =
     let covered = good.covered in
-    sym (λ i. below (λ v. good.same v i) n) ∙ below_flat (is_in bits) (length bits) n (omega arith) (λ k low high. get_or_past bits k false low) ∙ sym (members_below bits)
+    sym (λ i. below (λ v. good.same v i) n) ∙ below_flat (is_in bits) (length bits) (n - length bits) n (omega arith) (λ k low high. get_or_past bits k false low)
 
 -- ---- the k-th member
 

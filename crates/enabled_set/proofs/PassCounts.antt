@@ -1,52 +1,65 @@
--- Counting the numbers that pass, below a number.
-use Rattle.enabled_set.proofs.Prelude.{◌≡◌, ℕ, zero, suc, ◌+◌, ◌-◌, ◌<◌, ◌≤◌, min, Bool, true, false, cond, refl, sym, ap, ◌∙◌, arith, cases_lt}
-use Rattle.std.proofs.Common.{◌≢◌}
-use Rattle.enabled_set.specs.Counts.{tally}
+-- The numbers below a number that pass a test, how many there are, and sums of counts.
+use Rattle.enabled_set.proofs.Prelude.{◌≡◌, ◌≢◌, ℕ, zero, suc, ◌+◌, ◌-◌, ◌<◌, ◌≤◌, Bool, true, false, cond, List, [], ◌∷◌, ◌++◌, map, length, get_or, set, refl, sym, ap, ◌∙◌, arith, add-one, cases_lt, filter, range_with_len, append-nil, map-id, length-append, get_or-set_other, get_or-set_same, is_in, filter_of_map_range_with_len_more}
+use Rattle.enabled_set.specs.Counts.{tally, before, below}
 
--- 1 if a number is above v, else 0
-abbrev pub past : ℕ → ℕ → ℕ
-past v n = min 1 (n - v)
+pub below_none : (p : ℕ → Bool) → below p 0 ≡ []
+unfolding below
+below_none p = refl
 
--- sums of the numbers at each place, if one of them is one more
-pub one_more : (f g p q : ℕ → ℕ) (v : ℕ) → f 0 ≡ g 0 → ((i : ℕ) → f (suc i) ≡ f i + p i) → ((i : ℕ) → g (suc i) ≡ g i + q i) → q v ≡ suc (p v) → (n : ℕ) → ((i : ℕ) → i < n → i ≢ v → q i ≡ p i) → g n ≡ f n + past v n
-one_more f g p q v start more_f more_g here zero others = omega arith
-one_more f g p q v start more_f more_g here (suc n) others =
-    let ih = one_more f g p q v start more_f more_g here n (λ i low apart. others i (omega arith) apart) in
-    let a = more_f n in
-    let b = more_g n in
-    let same = others n (omega arith) in
-    grind arith
+-- one number more
+pub below_more : (p : ℕ → Bool) (n : ℕ) → below p (suc n) ≡ below p n ++ cond (p n) (n ∷ []) []
+unfolding below
+below_more p n =
+    let same : (m : ℕ) → map (λ (k : ℕ). k) (range_with_len 0 m) ≡ range_with_len 0 m = λ m. map-id (range_with_len 0 m) in
+    ap (λ m. filter p (range_with_len 0 m)) (sym (add-one n))
+    ∙ ap (filter p) (sym (same (n + 1)))
+    ∙ filter_of_map_range_with_len_more p (λ (k : ℕ). k) 0 n n (omega arith)
+    ∙ ap (λ l. filter p l ++ cond (p n) (n ∷ []) []) (same n)
+
+-- none more if no number passes
+pub below_flat : (p : ℕ → Bool) (a n b : ℕ) → b ≡ a + n → ((k : ℕ) → a ≤ k → k < b → p k ≡ false) → below p b ≡ below p a
+below_flat p a zero b e none = ap (below p) (let to : b ≡ a = omega arith in to)
+below_flat p a (suc n) b e none =
+    ap (below p) (let to : b ≡ suc (a + n) = omega arith in to) ∙ below_more p (a + n)
+    ∙ ap (λ t. below p (a + n) ++ cond t ((a + n) ∷ []) []) (none (a + n) (omega arith) (omega arith)) ∙ append-nil (below p (a + n))
+    ∙ below_flat p a n (a + n) refl (λ k low high. none k low (omega arith))
 
 pub tally_none : (p : ℕ → Bool) → tally p 0 ≡ 0
-unfolding tally
+unfolding tally below
 tally_none p = refl
 
--- one more number, which passes
-pub tally_true : (p : ℕ → Bool) (n : ℕ) → p n ≡ true → tally p (suc n) ≡ suc (tally p n)
-unfolding tally
-tally_true p n h = ap (λ b. cond b (suc (tally p n)) (tally p n)) h
-
--- one more number, which does not
-pub tally_false : (p : ℕ → Bool) (n : ℕ) → p n ≡ false → tally p (suc n) ≡ tally p n
-unfolding tally
-tally_false p n h = ap (λ b. cond b (suc (tally p n)) (tally p n)) h
-
--- one more number
 pub tally_more : (p : ℕ → Bool) (n : ℕ) → tally p (suc n) ≡ tally p n + cond (p n) 1 0
 unfolding tally
-tally_more p n = elim (p n) as (λ b. cond b (suc (tally p n)) (tally p n) ≡ tally p n + cond b 1 0) [ true ↦ omega arith | false ↦ omega arith ]
+tally_more p n =
+    ap length (below_more p n) ∙ length-append (below p n) (cond (p n) (n ∷ []) [])
+    ∙ elim (p n) as (λ b. length (below p n) + length (cond b (n ∷ []) []) ≡ length (below p n) + cond b 1 0) [ true ↦ refl | false ↦ refl ]
 
--- one more number adds one at most
-pub tally_one : (p : ℕ → Bool) (n : ℕ) → (tally p n ≤ tally p (suc n)) × (tally p (suc n) ≤ suc (tally p n))
-tally_one p n = let more = tally_more p n in (grind arith, grind arith)
+pub before_none : (counts : List ℕ) → before counts 0 ≡ 0
+unfolding before
+before_none counts = refl
+
+pub before_more : (counts : List ℕ) (i : ℕ) → before counts (suc i) ≡ before counts i + get_or counts i 0
+unfolding before
+before_more counts i = refl
+
+pub before_step : (counts : List ℕ) (i : ℕ) → before counts (i + 1) ≡ before counts i + get_or counts i 0
+before_step counts i = ap (before counts) (add-one i) ∙ before_more counts i
+
+pub before_next : (counts : List ℕ) (i j : ℕ) → j ≡ i + 1 → before counts j ≡ before counts i + get_or counts i 0
+before_next counts i j e = ap (before counts) e ∙ before_step counts i
+
+-- if one place has more members than remain to be skipped, it has one and none remains to be skipped
+pub last : (p : ℕ → Bool) (n left : ℕ) → tally p n + left < tally p (n + 1) → (p n ≡ true) × (left ≡ 0)
+last p n left less = let more = ap (tally p) (add-one n) ∙ tally_more p n in grind arith
 
 -- some more numbers add that many at most
 pub tally_add : (p : ℕ → Bool) (a n b : ℕ) → b ≡ a + n → (tally p a ≤ tally p b) × (tally p b ≤ tally p a + n)
 tally_add p a zero b e =
     let to : b ≡ a = omega arith in (grind arith, grind arith)
-tally_add p a (suc n) b e = grind (arith, tally_add p a n (a + n) refl, tally_one)
+tally_add p a (suc n) b e =
+    let to : b ≡ suc (a + n) = omega arith in
+    grind (arith, tally_add p a n (a + n) refl, tally_more p (a + n))
 
--- the tally rises, no faster than the numbers
 pub tally_rise : (p : ℕ → Bool) (a b : ℕ) → a ≤ b → tally p a ≤ tally p b
 tally_rise p a b h = (tally_add p a (b - a) b (omega arith)).0
 
@@ -54,19 +67,14 @@ tally_rise p a b h = (tally_add p a (b - a) b (omega arith)).0
 pub tally_through : (p : ℕ → Bool) (a v b : ℕ) → p v ≡ true → a ≤ v → v < b → tally p a + 1 ≤ tally p b
 tally_through p a v b h low high =
     let low_part = tally_rise p a v low in
-    let one = tally_true p v h in
+    let one = rw h at (tally_more p v) in
     let high_part = tally_rise p (suc v) b (omega arith) in
     omega arith
 
--- what does not change from one number to the next, between two of them, is the same at both
-pub flat : {X : Type 0} (f : ℕ → X) (a n b : ℕ) → b ≡ a + n → ((k : ℕ) → a ≤ k → k < b → f (suc k) ≡ f k) → f b ≡ f a
-flat f a zero b e same = ap f (let to : b ≡ a = omega arith in to)
-flat f a (suc n) b e same =
-    ap f (let to : b ≡ suc (a + n) = omega arith in to) ∙ same (a + n) (omega arith) (omega arith) ∙ flat f a n (a + n) refl (λ k low high. same k low (omega arith))
-
 -- a tally stays the same if no number passes
 pub tally_flat : (p : ℕ → Bool) (a b : ℕ) → a ≤ b → ((k : ℕ) → a ≤ k → k < b → p k ≡ false) → tally p b ≡ tally p a
-tally_flat p a b up none = flat (tally p) a (b - a) b (omega arith) (λ k low high. tally_false p k (none k low high))
+unfolding tally
+tally_flat p a b up none = ap length (below_flat p a (b - a) b (omega arith) none)
 
 -- if no number from one on passes, no tally is above the tally below that number
 pub tally_end : (p : ℕ → Bool) (a b : ℕ) → ((k : ℕ) → a ≤ k → p k ≡ false) → tally p b ≤ tally p a
@@ -81,8 +89,34 @@ tally_shift p q a (suc n) same =
     let to : a + suc n ≡ suc (a + n) = omega arith in
     grind (arith, tally_more p (a + n), tally_more q n)
 
--- one number more that passes
-pub tally_put : (p q : ℕ → Bool) (v : ℕ) → p v ≡ false → q v ≡ true → (n : ℕ) → ((k : ℕ) → k < n → k ≢ v → q k ≡ p k) → tally q n ≡ tally p n + past v n
-tally_put p q v off on n others =
-    one_more (tally p) (tally q) (λ i. cond (p i) 1 0) (λ i. cond (q i) 1 0) v (tally_none p ∙ sym (tally_none q)) (tally_more p) (tally_more q)
-    (ap (λ b. cond {A = ℕ} b 1 0) on ∙ ap (λ b. suc (cond {A = ℕ} b 1 0)) (sym off)) n (λ k low apart. ap (λ b. cond {A = ℕ} b 1 0) (others k low apart))
+-- sums of what each number has, if one number has something else
+sum_put : (f g p q : ℕ → ℕ) (v x : ℕ) → q v ≡ x → f 0 ≡ g 0 → ((i : ℕ) → f (suc i) ≡ f i + p i) → ((i : ℕ) → g (suc i) ≡ g i + q i) → (n : ℕ) → ((i : ℕ) → i < n → i ≢ v → q i ≡ p i) → (n ≤ v → g n ≡ f n) × (v < n → g n + p v ≡ f n + x)
+sum_put f g p q v x is start more_f more_g zero others = (λ up. sym start, λ low. absurd (omega (arith, low)))
+sum_put f g p q v x is start more_f more_g (suc n) others =
+    let ih = sum_put f g p q v x is start more_f more_g n (λ i low apart. others i (omega arith) apart) in
+    let a = more_f n in
+    let b = more_g n in
+    let same = others n (omega arith) in
+    (λ up. grind arith, λ low. grind arith)
+
+-- a tally if the test of one number has changed, and a sum of counts if one count has
+pub tally_put : (p q : ℕ → Bool) (v n : ℕ) (b : Bool) → q v ≡ b → ((k : ℕ) → k < n → k ≢ v → q k ≡ p k) → (n ≤ v → tally q n ≡ tally p n) × (v < n → tally q n + cond (p v) 1 0 ≡ tally p n + cond b 1 0)
+tally_put p q v n b here others =
+    sum_put (tally p) (tally q) (λ k. cond (p k) 1 0) (λ k. cond (q k) 1 0) v (cond b 1 0) (ap (λ t. cond {A = ℕ} t 1 0) here) (tally_none p ∙ sym (tally_none q)) (tally_more p) (tally_more q) n (λ k low apart. ap (λ t. cond {A = ℕ} t 1 0) (others k low apart))
+
+pub tally_set : (bits : List Bool) (v : ℕ) (b : Bool) (n : ℕ) → v < length bits → (n ≤ v → tally (is_in (set bits v b)) n ≡ tally (is_in bits) n) × (v < n → tally (is_in (set bits v b)) n + cond (is_in bits v) 1 0 ≡ tally (is_in bits) n + cond b 1 0)
+tally_set bits v b n there =
+    tally_put (is_in bits) (is_in (set bits v b)) v n b (get_or-set_same bits v b false there) (λ k low apart. get_or-set_other bits v k b false apart)
+
+pub before_set : (counts : List ℕ) (j x n : ℕ) → j < length counts → (n ≤ j → before (set counts j x) n ≡ before counts n) × (j < n → before (set counts j x) n + get_or counts j 0 ≡ before counts n + x)
+before_set counts j x n there =
+    sum_put (before counts) (before (set counts j x)) (λ k. get_or counts k 0) (λ k. get_or (set counts j x) k 0) j x (get_or-set_same counts j x 0 there) (before_none counts ∙ sym (before_none (set counts j x))) (before_more counts) (before_more (set counts j x)) n (λ k low apart. get_or-set_other counts j k x 0 apart)
+
+-- The state of a scan that has summed the blocks up to one: it is after those that it has skipped, and before
+-- one with more members than remain to be skipped.
+pub record IsPassed (f : ℕ → ℕ) (from at place left sum to_pass : ℕ) : Type 0 where
+  pub summed : f at ≡ f from + sum
+  pub passed : f place + left ≡ f from + to_pass
+  pub low : from ≤ place
+  pub high : place ≤ at
+  pub stands : place < at → f from + to_pass < f (place + 1)

@@ -1,7 +1,8 @@
 -- Places as bits of words.
-use Rattle.enabled_set.proofs.Prelude.{◌≡◌, ℕ, ◌+◌, ◌*◌, ◌/◌, ◌%◌, ◌<◌, Bool, false, List, length, get_or, set, replicate, sym, ap, ◌∙◌, arith, ◌≢◌, get_or-set_same, get_or-set_other, ext_get_or, length-map-range_with_len, get_or-map-range_with_len, bit_at-zero, is_in, has_bit}
+use Rattle.enabled_set.proofs.Prelude.{◌≡◌, ℕ, ◌+◌, ◌*◌, ◌/◌, ◌%◌, ◌<◌, Bool, false, List, length, get_or, set, replicate, sym, ap, ◌∙◌, arith, ◌≢◌, get_or-set_same, get_or-set_other, ext_get_or, length-map-range_with_len, get_or-map-range_with_len, bit_at-zero, is_in, has_bit, tally}
 use Rattle.enabled_set.specs.Members.{is_bit_on, first_bits}
 use Rattle.enabled_set.proofs.Bits.{has_none}
+use Rattle.enabled_set.proofs.PassCounts.{tally_shift}
 use Rattle.enabled_set.proofs.Sums.{everywhere}
 
 pub length-places_of : (len : ℕ) (words : List ℕ) → length (first_bits len words) ≡ len
@@ -23,6 +24,12 @@ places_are len words bits long same =
 pub on_word : (words : List ℕ) (g i : ℕ) → i < 64 → is_bit_on words (64 * g + i) ≡ has_bit (get_or words g 0) i
 unfolding is_bit_on
 on_word words g i inside = grind arith
+
+-- one word more
+pub words_step : (words : List ℕ) (place : ℕ) → tally (is_bit_on words) (64 * (place + 1)) ≡ tally (is_bit_on words) (64 * place) + tally (has_bit (get_or words place 0)) 64
+words_step words place =
+    ap (tally (is_bit_on words)) (let e : 64 * (place + 1) ≡ 64 * place + 64 = omega arith in e)
+    ∙ tally_shift (is_bit_on words) (has_bit (get_or words place 0)) (64 * place) 64 (λ i less. on_word words place i less)
 
 -- a word that is written
 pub put_here : (words : List ℕ) (v word : ℕ) (b : Bool) → v / 64 < length words → has_bit word (v % 64) ≡ b → is_bit_on (set words (v / 64) word) v ≡ b

@@ -2,11 +2,10 @@
 use Rattle.enabled_set.proofs.Prelude.{◌≡◌, ℕ, zero, suc, ◌+◌, ◌-◌, ◌*◌, ◌/◌, ◌%◌, ◌<◌, ◌≤◌, ◌&&◌, min, ◌⊎◌, inl, inr, Bool, true, false, List, length, get_or, set, replicate, refl, sym, ap, subst, ◌∙◌, ⊎_elim, arith, ◌≢◌, cases_lt, true≢false, false_from_ne_true, nat_eq, bit_and, bit_at, w64, trailing_zeros, bit_at_and, bit_at-lt, bit_at-zero, length-set, length-replicate, get_or_past, get_or-set_same, get_or-set_other, is_in, members, first_bits, AreBlockCounts, AreTrimmed}
 use Rattle.std.proofs.lemmas.Bool.{ne_eqb}
 use Rattle.enabled_set.specs.Members.{has_bit, is_bit_on}
-use Rattle.enabled_set.proofs.Before.{before_more}
 use Rattle.enabled_set.proofs.Bits.{first_some, has_none}
-use Rattle.enabled_set.proofs.Changes.{same_put, total_some}
+use Rattle.enabled_set.proofs.Changes.{same_put}
 use Rattle.enabled_set.proofs.Members.{length-members}
-use Rattle.enabled_set.proofs.PassCounts.{tally_flat, tally_none, tally_through}
+use Rattle.enabled_set.proofs.PassCounts.{before_more, tally_flat, tally_none, tally_through}
 use Rattle.enabled_set.proofs.Places.{in_places, length-places_of, on_none, on_word, places_are}
 use Rattle.enabled_set.proofs.Sums.{everywhere}
 
@@ -59,7 +58,7 @@ empty_is words (suc used) fits good =
     let within = good.within in
     let len = length-places_of 65536 words in
     let there : v < length (first_bits 65536 words) = omega (arith, within, len, first.0) in
-    let some = total_some (first_bits 65536 words) v there on in
+    let some = tally_through (is_in (first_bits 65536 words)) 0 v (length (first_bits 65536 words)) on (omega arith) there in
     let count = length-members (first_bits 65536 words) in
     not_none (suc used) (omega arith) ∙ sym (not_none (length (members (first_bits 65536 words))) (omega (arith, some, count)))
   where

@@ -2,7 +2,7 @@
 pub use Rattle.std.proofs.Common.{◌≡◌, ℕ, zero, suc, ◌+◌, ◌-◌, ◌*◌, ◌/◌, ◌%◌, ◌^◌, ◌<◌, Bool, true, false, sym, ap, ◌∙◌, arith, ◌≤◌, List, length, get_or, set, replicate, subst, ⊎_elim, cond, [], ◌∷◌, ◌++◌, map, Some, refl, Option, None, ap₂, min, max, add-one, sum_by, ◌⊎◌, inl, inr, not, ◌&&◌}
 pub use Rattle.std.proofs.Math.Nat.{mod-lt, div-lt_iff_lt-mul, mul-suc, mul_comm, mul-div-le, le-div_iff_mul-le, le_trans}
 pub use Rattle.std.proofs.lemmas.Bool.{cases_lt, false_from_ne_true, true≢false}
-pub use Rattle.std.proofs.lemmas.List.{length-set, length-replicate, get_or_read, set-get_or, get_or-set_other, get_or-set_same, append-nil, map-id, length_push, get_or_past, get_or_push, get_or_append_left, ext_get_or, get_or-replicate}
+pub use Rattle.std.proofs.lemmas.List.{length-append, length-set, length-replicate, get_or_read, set-get_or, get_or-set_other, get_or-set_same, append-nil, map-id, length_push, get_or_past, get_or_push, get_or_append_left, ext_get_or, get_or-replicate}
 pub use Rattle.std.proofs.lemmas.List.Elements.{All-set}
 pub use Rattle.std.proofs.lemmas.List.FromFn.{filter_of_map_range_with_len_more, length-map-range_with_len, get_or-map-range_with_len}
 pub use Rattle.std.proofs.lemmas.List.Sums.{get_or-le-sum_by, sum_by-cons, sum_by-le, sum_by-set}

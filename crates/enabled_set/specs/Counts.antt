@@ -1,16 +1,15 @@
 -- How many members each block of places has.
-use Rattle.std.specs.Prelude.{◌≡◌, ℕ, zero, suc, ◌+◌, ◌*◌, ◌≤◌, Bool, false, cond, List, length, slice_index}
+use Rattle.std.specs.Prelude.{◌≡◌, ℕ, zero, suc, ◌+◌, ◌*◌, ◌≤◌, Bool, false, List, length, slice_index}
 use Rattle.std.specs.List.{filter, range_with_len}
 use Rattle.enabled_set.specs.Members.{is_in, is_bit_on}
-
--- how many numbers below the second argument pass the test
-unfoldable pub tally : (ℕ → Bool) → ℕ → ℕ
-tally p zero = 0
-tally p (suc n) = cond (p n) (suc (tally p n)) (tally p n)
 
 -- the numbers below the second argument that pass the test, ascending
 unfoldable pub below : (ℕ → Bool) → ℕ → List ℕ
 below p n = filter p (range_with_len 0 n)
+
+-- how many numbers below the second argument pass the test
+unfoldable pub tally : (ℕ → Bool) → ℕ → ℕ
+tally p n = length (below p n)
 
 -- the sum of the counts before an index; counts past the end are 0
 unfoldable pub before : List ℕ → ℕ → ℕ

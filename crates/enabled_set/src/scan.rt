@@ -18,6 +18,7 @@ pub fn word_at(words: &[u64], place: usize) -> u64
 }
 
 #[inline(always)]
+#[tactic(auto, unfolding(crate::specs::Members::is_bit_on))]
 pub fn look(words: &[u64], place: usize) -> bool
     ensures { result ≡ is_bit_on words.now place }
 {
@@ -27,6 +28,7 @@ pub fn look(words: &[u64], place: usize) -> bool
 /// Finds the block that has member `to_pass`, and the member's index in the block; both from 0.
 /// Stops at the block found, since a network has few blocks to pass.
 #[inline(always)]
+#[tactic(auto, using(crate::proofs::PassCounts::before_none, crate::proofs::PassCounts::before_next))]
 pub fn pass_in_16(counts: &[u16], to_pass: u32) -> Spot
     requires room { 16 ≤ length counts.now }
     requires enough { to_pass < before counts.now 16 }
@@ -48,6 +50,7 @@ pub fn pass_in_16(counts: &[u16], to_pass: u32) -> Spot
 /// Like `pass_in_16`, for the eight counts from index `from` on.
 /// Sums all of them, to avoid a mispredicted branch.
 #[inline(always)]
+#[tactic(auto, using(crate::proofs::PassCounts::before_step))]
 pub fn pass_in_8(counts: &[u16], from: usize, to_pass: u32) -> Spot
     requires room { from + 8 ≤ length counts.now }
     requires near { from ≤ 65528 }
@@ -70,6 +73,7 @@ pub fn pass_in_8(counts: &[u16], from: usize, to_pass: u32) -> Spot
 
 /// Like `pass_in_8`, for the bits of the eight words from index `from` on.
 #[inline(always)]
+#[tactic(auto, using(crate::proofs::Places::words_step, crate::proofs::Bits::ones_of, crate::proofs::Bits::ones_few))]
 pub fn pass_words(words: &[u64], from: usize, to_pass: u32) -> Spot
     requires room { from + 8 ≤ length words.now }
     requires near { from ≤ 65528 }

@@ -5,6 +5,7 @@ ghost use Rattle.enabled_set.specs.Members.{has_bit};
 ghost use Rattle.enabled_set.specs.Counts.{tally};
 
 #[inline(always)]
+#[tactic(auto, unfolding(crate::specs::Members::has_bit))]
 pub fn bit_is_set(word: u64, at: usize) -> bool
     requires { at < 64 }
     ensures { result ≡ has_bit word at }
@@ -12,6 +13,7 @@ pub fn bit_is_set(word: u64, at: usize) -> bool
     word >> at & 1 == 1
 }
 
+#[tactic(auto, using(crate::proofs::Bits::with_here, crate::proofs::Bits::with_others))]
 pub fn with_bit(word: u64, at: usize) -> u64
     requires { at < 64 }
     ensures here { has_bit result at ≡ true }
@@ -20,6 +22,7 @@ pub fn with_bit(word: u64, at: usize) -> u64
     word | 1 << at
 }
 
+#[tactic(auto, using(crate::proofs::Bits::without_here, crate::proofs::Bits::without_others))]
 pub fn without_bit(word: u64, at: usize) -> u64
     requires { at < 64 }
     ensures here { has_bit result at ≡ false }
@@ -65,6 +68,7 @@ pub fn spot_behind(spot: Spot, place: usize, to_pass: u32, members: u32) -> Spot
 }
 
 /// Of the `2 * width` bits from `spot` on, the half that has the bit searched for.
+#[tactic(auto, using(crate::proofs::Bits::ones_there))]
 fn half(word: u64, spot: Spot, width: usize) -> Spot
     requires some { 1 ≤ width }
     requires inside { spot.place + 2 * width ≤ 64 }

@@ -1,5 +1,5 @@
 use Rattle.enabled_set.proofs.Prelude.{◌+◌, ◌*◌, ◌≤◌, is_bit_on, tally}
-use Rattle.enabled_set.proofs.Halves.{IsPassed}
+use Rattle.enabled_set.proofs.PassCounts.{IsPassed}
 use Rattle.enabled_set.proofs.scan.pass_words.Given as goal
 
 abbrev pub invariant-loop-at : goal.invariant-loop-at

@@ -1,6 +1,5 @@
 use Rattle.enabled_set.proofs.Prelude.{arith, has_bit}
-use Rattle.enabled_set.proofs.PassCounts.{tally_none}
-use Rattle.enabled_set.proofs.Bits.{last}
+use Rattle.enabled_set.proofs.PassCounts.{last, tally_none}
 use Rattle.enabled_set.proofs.spot.find_bit.Goals as goal
 
 pub half-in_32-requires-clause-enough : goal.half-in_32-requires-clause-enough

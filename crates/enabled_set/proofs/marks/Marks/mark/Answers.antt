@@ -1,5 +1,6 @@
 use Rattle.enabled_set.proofs.Prelude.{◌+◌, ◌<◌, ◌∙◌, ℕ, true, false, length, set, sym, ap, subst, arith, get_or_read, true≢false, is_in, AreListed}
-use Rattle.enabled_set.proofs.MarkChanges.{marked_already, one_listed_more, room_left}
+use Rattle.enabled_set.proofs.Changes.{put_same}
+use Rattle.enabled_set.proofs.MarkChanges.{one_listed_more, room_left}
 use Rattle.enabled_set.proofs.marks.Marks.mark.Goals as goal
 
 pub index_mut-requires-2 : goal.index_mut-requires-2
@@ -31,4 +32,4 @@ pub returns-then-self : goal.returns-then-self
 returns-then-self c =
     let named = c.place-place.ensures in
     let on = c.self.invariant.1 c.if-self.true c.args.v (omega (arith, named.same, named.named)) (subst (λ l. c.args.v < length l) (sym c.self.view_is) c.requires) in
-    marked_already c.args.self.now c.args.v (ap (λ l. is_in l c.args.v) (sym c.self.view_is) ∙ on)
+    put_same c.args.self.now c.args.v true (ap (λ l. is_in l c.args.v) (sym c.self.view_is) ∙ on)

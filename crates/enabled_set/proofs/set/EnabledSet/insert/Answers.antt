@@ -1,6 +1,6 @@
-use Rattle.enabled_set.proofs.Prelude.{◌≡◌, ◌+◌, ◌/◌, ◌<◌, true, length, set, arith, ap, sym, ◌∙◌, first_bits, HasRightCounts}
+use Rattle.enabled_set.proofs.Prelude.{◌≡◌, ◌+◌, ◌/◌, ◌<◌, true, false, length, set, arith, ap, sym, ◌∙◌, first_bits, HasRightCounts}
 use Rattle.enabled_set.proofs.Stretches.{count_few}
-use Rattle.enabled_set.proofs.Changes.{count_read, bit_read, put_same, total_few, counted_more}
+use Rattle.enabled_set.proofs.Changes.{count_read, bit_read, put_same, total_few, counted_put}
 use Rattle.enabled_set.proofs.set.EnabledSet.insert.Goals as goal
 use Rattle.enabled_set.proofs.set.EnabledSet.insert.Goals.{After-bit_is_set, After-index_mut-3}
 
@@ -12,7 +12,7 @@ there c = omega (arith, ap length c.self.view_is)
 put : (c : After-index_mut-3) → c.place-place.result < length (first_bits c.self.inside.len c.self.inside.words.items) → HasRightCounts (first_bits c.self.inside.len (set c.self.inside.words.items (c.place-place.result / 64) c.with_bit.result)) (set c.self.inside.words.items (c.place-place.result / 64) c.with_bit.result) (set c.self.inside.by_512.items (c.place-place.result / 512) (c.index_mut-2.result.now + 1)) (set c.self.inside.by_4096.items (c.place-place.result / 4096) (c.index_mut-3.result.now + 1)) (c.self.inside.total + 1) × (first_bits c.self.inside.len (set c.self.inside.words.items (c.place-place.result / 64) c.with_bit.result) ≡ set (first_bits c.self.inside.len c.self.inside.words.items) c.place-place.result true)
 put c place =
     let it = c.self.inside in
-    counted_more it.len it.words.items it.by_512.items it.by_4096.items it.total c.place-place.result c.index-word.result.now c.with_bit.result c.index_mut-2.result.now c.index_mut-3.result.now c.self.invariant place c.place-place.ensures.named.0 c.index-word.ensures (sym c.bit_is_set.ensures ∙ c.if-bit_is_set.false) c.with_bit.ensures.here c.with_bit.ensures.others c.index_mut-2.ensures.value c.index_mut-3.ensures.value
+    counted_put it.len it.words.items it.by_512.items it.by_4096.items it.total c.place-place.result c.index-word.result.now c.with_bit.result c.index_mut-2.result.now _ c.index_mut-3.result.now _ _ false true c.self.invariant place c.place-place.ensures.named.0 c.index-word.ensures (sym c.bit_is_set.ensures ∙ c.if-bit_is_set.false) c.with_bit.ensures.here c.with_bit.ensures.others c.index_mut-2.ensures.value (omega arith) c.index_mut-3.ensures.value (omega arith) (omega arith)
 
 pub returns-then-bit_is_set : goal.returns-then-bit_is_set
 returns-then-bit_is_set c =

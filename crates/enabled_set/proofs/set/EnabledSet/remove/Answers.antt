@@ -1,7 +1,8 @@
 use Rattle.enabled_set.proofs.Prelude.{◌≡◌, ◌-◌, ◌/◌, ◌<◌, true, false, length, set, arith, ap, sym, ◌∙◌, is_in, is_bit_on, first_bits, HasRightCounts}
 use Rattle.enabled_set.proofs.Members.{inside}
 use Rattle.enabled_set.proofs.Stretches.{count_some}
-use Rattle.enabled_set.proofs.Changes.{count_read, bit_read, put_same, total_some, counted_less}
+use Rattle.enabled_set.proofs.Changes.{bit_read, count_read, counted_put}
+use Rattle.enabled_set.proofs.PassCounts.{tally_through}
 use Rattle.enabled_set.proofs.set.EnabledSet.remove.Goals as goal
 use Rattle.enabled_set.proofs.set.EnabledSet.remove.Goals.{After-look, After-index_mut-3}
 
@@ -17,13 +18,7 @@ there c on = inside (first_bits c.self.inside.len c.self.inside.words.items) c.p
 put : (c : After-index_mut-3) → c.place-place.result < length (first_bits c.self.inside.len c.self.inside.words.items) → is_in (first_bits c.self.inside.len c.self.inside.words.items) c.place-place.result ≡ true → HasRightCounts (first_bits c.self.inside.len (set c.self.inside.words.items (c.place-place.result / 64) c.without_bit.result)) (set c.self.inside.words.items (c.place-place.result / 64) c.without_bit.result) (set c.self.inside.by_512.items (c.place-place.result / 512) (c.index_mut-2.result.now - 1)) (set c.self.inside.by_4096.items (c.place-place.result / 4096) (c.index_mut-3.result.now - 1)) (c.self.inside.total - 1) × (first_bits c.self.inside.len (set c.self.inside.words.items (c.place-place.result / 64) c.without_bit.result) ≡ set (first_bits c.self.inside.len c.self.inside.words.items) c.place-place.result false)
 put c place on =
     let it = c.self.inside in
-    counted_less it.len it.words.items it.by_512.items it.by_4096.items it.total c.place-place.result c.index-word.result.now c.without_bit.result c.index_mut-2.result.now c.index_mut-3.result.now c.self.invariant place c.index-word.ensures (sym (bit_read (first_bits it.len it.words.items) it.words.items it.by_512.items it.by_4096.items it.total c.place-place.result c.index-word.result.now c.self.invariant place c.index-word.ensures) ∙ on) c.without_bit.ensures.here c.without_bit.ensures.others c.index_mut-2.ensures.value c.index_mut-3.ensures.value
-
-pub returns-then-not-look : goal.returns-then-not-look
-returns-then-not-look c =
-    let bits = first_bits c.self.inside.len c.self.inside.words.items in
-    let is = looked (goal.at.returns-then-not-look c).After-look ∙ c.if-not-look.true in
-    sym c.self.view_is ∙ put_same bits c.place-place.result false is ∙ ap (λ v. set bits v false) c.place-place.ensures.same ∙ ap (λ xs. set xs c.args.v false) c.self.view_is
+    counted_put it.len it.words.items it.by_512.items it.by_4096.items it.total c.place-place.result c.index-word.result.now c.without_bit.result c.index_mut-2.result.now _ c.index_mut-3.result.now _ _ true false c.self.invariant place c.place-place.ensures.named.0 c.index-word.ensures (sym (bit_read (first_bits it.len it.words.items) it.words.items it.by_512.items it.by_4096.items it.total c.place-place.result c.index-word.result.now c.self.invariant place c.index-word.ensures) ∙ on) c.without_bit.ensures.here c.without_bit.ensures.others c.index_mut-2.ensures.value (omega arith) c.index_mut-3.ensures.value (omega arith) (omega arith)
 
 pub overflow_sub-index_mut : goal.overflow_sub-index_mut
 overflow_sub-index_mut c =
@@ -50,7 +45,7 @@ overflow_sub-self c =
     let at = (goal.at.overflow_sub-self c).After-look in
     let place = there at c.if-not-look.false in
     let on = looked at ∙ c.if-not-look.false in
-    omega (arith, total_some (first_bits c.self.inside.len c.self.inside.words.items) c.place-place.result place on)
+    omega (arith, tally_through (is_in (first_bits c.self.inside.len c.self.inside.words.items)) 0 c.place-place.result (length (first_bits c.self.inside.len c.self.inside.words.items)) on (omega arith) place)
 
 pub invariant_of-self : goal.invariant_of-self
 invariant_of-self c = let at = goal.at.invariant_of-self c in (put at.After-index_mut-3 (there at.After-look c.if-not-look.false) (looked at.After-look ∙ c.if-not-look.false)).0

@@ -1,5 +1,5 @@
 use Rattle.enabled_set.proofs.Prelude.{◌*◌, ◌≤◌, length, ap, sym, ◌∙◌, arith, members, is_bit_on, first_bits}
-use Rattle.enabled_set.proofs.Members.{below_none}
+use Rattle.enabled_set.proofs.PassCounts.{below_none}
 use Rattle.enabled_set.proofs.Nth.{below_all}
 use Rattle.enabled_set.proofs.set.EnabledSet.to_list.Goals as goal
 
