@@ -1,5 +1,5 @@
 -- One mark more, and one less.
-use Rattle.enabled_set.proofs.Prelude.{◌≡◌, ℕ, ◌+◌, ◌-◌, ◌<◌, ◌≤◌, Bool, true, false, List, length, get_or, set, replicate, sym, ap, ◌∙◌, ◌≢◌, ⊎_elim, arith, cases_lt, false_from_ne_true, true≢false, get_or_read, get_or-set_other, get_or-set_same, length-replicate, length-set, is_in, members, tally, AreListed}
+use Rattle.enabled_set.proofs.Prelude.{◌≡◌, ℕ, ◌+◌, ◌-◌, ◌<◌, ◌≤◌, Bool, true, false, List, length, get_or, set, replicate, sym, ap, ◌∙◌, ◌≢◌, ⊎_elim, arith, cases_eq, cases_lt, false_from_ne_true, true≢false, get_or_read, get_or-set_other, get_or-set_same, length-replicate, length-set, is_in, members, tally, AreListed}
 use Rattle.enabled_set.proofs.Changes.{tally_nobody, total_few}
 use Rattle.enabled_set.proofs.PassCounts.{tally_set, tally_through}
 use Rattle.enabled_set.proofs.Members.{inside, length-members}
@@ -22,34 +22,9 @@ all_listed bits names count listed = let most = total_few bits in omega (arith, 
 -- one name more
 pub one_listed_more : (bits : List Bool) (names : List ℕ) (count v : ℕ) → AreListed bits names count → v < length bits → is_in bits v ≡ false → AreListed (set bits v true) (set names count v) (count + 1)
 one_listed_more bits names count v listed there off =
-    let len = length-set bits v true in
     let put = rw off at ((tally_set bits v true (length bits) there).1 there) in
-    record {
-      few = omega (arith, len, listed.few);
-      some = omega (arith, len, listed.some);
-      room = omega (arith, len, length-set names count v, listed.room);
-      counted = ap (tally (is_in (set bits v true))) len ∙ omega (arith, put, listed.counted);
-      marked = λ i below.
-          ⊎_elim
-          (λ (low : i < count). ap (is_in (set bits v true)) (kept i low) ∙ get_or-set_other bits v (get_or names i 0) true false (apart i low) ∙ listed.marked i low)
-          (λ (high : count ≤ i). ap (is_in (set bits v true)) (last i (omega (arith, below, high))) ∙ get_or-set_same bits v true false there)
-          (cases_lt i count);
-      once = λ i j less below.
-          let low : i < count = omega (arith, less, below) in
-          ⊎_elim
-          (λ (lower : j < count). λ e. listed.once i j less lower (sym (kept i low) ∙ e ∙ kept j lower))
-          (λ (high : count ≤ j). λ e. apart i low (sym (kept i low) ∙ e ∙ last j (omega (arith, below, high))))
-          (cases_lt j count);
-    }
-  where
-    apart : (i : ℕ) → i < count → get_or names i 0 ≢ v
-    apart i low e = true≢false (sym (listed.marked i low) ∙ ap (is_in bits) e ∙ off)
-
-    kept : (i : ℕ) → i < count → get_or (set names count v) i 0 ≡ get_or names i 0
-    kept i low = get_or-set_other names count i v 0 (λ (e : i ≡ count). omega (arith, e, low))
-
-    last : (i : ℕ) → i ≡ count → get_or (set names count v) i 0 ≡ v
-    last i at = ap (λ k. get_or (set names count v) k 0) at ∙ get_or-set_same names count v 0 (let space = room_left bits names count v listed there off in omega (arith, space, listed.room))
+    let space = room_left bits names count v listed there off in
+    grind (arith, cases_eq, cases_lt, get_or-set_other, get_or-set_same, length-set)
 
 -- the name at the end of the list: it is marked and has a place, and without it one is listed less
 pub record IsLast (bits : List Bool) (names : List ℕ) (count v : ℕ) : Type 0 where
@@ -65,18 +40,7 @@ at_end bits names count v some read listed =
     let there = inside bits v on in
     let len = length-set bits v false in
     let put = rw on at ((tally_set bits v false (length bits) there).1 there) in
-    record {
-      marked = on;
-      there = there;
-      less = record {
-        few = omega (arith, len, listed.few);
-        some = omega (arith, len, listed.some);
-        room = omega (arith, len, listed.room);
-        counted = ap (tally (is_in (set bits v false))) len ∙ omega (arith, put, listed.counted);
-        marked = λ i low. get_or-set_other bits v (get_or names i 0) false false (λ e. listed.once i (count - 1) low (omega (arith, some)) (e ∙ at)) ∙ listed.marked i (omega (arith, low));
-        once = λ i j less low. listed.once i j less (omega (arith, low));
-      };
-    }
+    grind (arith, get_or-set_other, length-set)
 
 -- if none is listed, none is marked
 pub none_marked : (bits : List Bool) (names : List ℕ) (count v : ℕ) → count ≡ 0 → AreListed bits names count → is_in bits v ≡ false

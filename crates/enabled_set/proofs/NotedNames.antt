@@ -14,10 +14,3 @@ unset (b ∷ bits) (suc v) (suc u) h = unset bits v u h
 
 pub inserted : (bits : List Bool) (removed : RemovedNames) (v : ℕ) → KeepsNotes bits removed (set bits v true) removed
 inserted bits removed v = λ before noted u was off. noted u was (unset bits v u off)
-
-pub removed_one : (bits : List Bool) (removed removed' : RemovedNames) (v : ℕ) → IsTrue (may_have removed' v) → ((u : ℕ) → IsTrue (may_have removed u) → IsTrue (may_have removed' u)) → KeepsNotes bits removed (set bits v false) removed'
-removed_one bits removed removed' v here kept = λ before noted u was off.
-    ⊎_elim
-    (λ (same : u ≡ v). subst (λ x. IsTrue (may_have removed' x)) (sym same) here)
-    (λ apart. kept u (noted u was (sym (get_or-set_other bits v u false false apart) ∙ off)))
-    (cases_eq u v)

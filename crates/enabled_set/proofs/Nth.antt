@@ -48,11 +48,7 @@ listed_more words place rest less at v n list more so_far inside on first off ot
       listed = new ∙ ap₂ (λ l x. l ++ x ∷ []) (listed_up words place rest list n at so_far behind (omega arith) (λ i low. first i)) name
           ∙ sym (rw (sym (so_far.left at behind inside) ∙ on) at (below_more (is_bit_on words) (64 * place + at)))
           ∙ ap (below (is_bit_on words)) (let e : suc (64 * place + at) ≡ 64 * place + (at + 1) = omega arith in e);
-      gone = λ i below.
-          ⊎_elim
-          (λ (before : i < at). others i (omega arith) (λ (e : i ≡ at). omega arith) ∙ first i before)
-          (λ (here : at ≤ i). ap (has_bit less) (let e : i ≡ at = omega (arith, below, here) in e) ∙ off)
-          (cases_lt i at);
+      gone = λ i below. grind (arith, cases_lt);
       left = λ i up within. others i within (λ (e : i ≡ at). omega (arith, up, e)) ∙ so_far.left i (omega (arith, up, behind)) within;
     }
 

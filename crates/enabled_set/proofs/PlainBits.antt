@@ -1,5 +1,5 @@
 -- Words as a set of names without counts.
-use Rattle.enabled_set.proofs.Prelude.{◌≡◌, ℕ, zero, suc, ◌+◌, ◌-◌, ◌*◌, ◌/◌, ◌%◌, ◌<◌, ◌≤◌, ◌&&◌, min, ◌⊎◌, inl, inr, Bool, true, false, List, length, get_or, set, replicate, refl, sym, ap, subst, ◌∙◌, ⊎_elim, arith, ◌≢◌, cases_lt, true≢false, false_from_ne_true, nat_eq, bit_and, bit_at, w64, trailing_zeros, bit_at_and, bit_at-lt, bit_at-zero, length-set, length-replicate, get_or_past, get_or-set_same, get_or-set_other, is_in, members, first_bits, AreBlockCounts, AreTrimmed}
+use Rattle.enabled_set.proofs.Prelude.{◌≡◌, ℕ, zero, suc, ◌+◌, ◌-◌, ◌*◌, ◌/◌, ◌%◌, ◌<◌, ◌≤◌, ◌&&◌, min, ◌⊎◌, inl, inr, Bool, true, false, List, length, get_or, set, replicate, refl, sym, ap, subst, ◌∙◌, ⊎_elim, arith, ◌≢◌, cases_eq, cases_lt, true≢false, false_from_ne_true, nat_eq, bit_and, bit_at, w64, trailing_zeros, bit_at_and, bit_at-lt, bit_at-zero, length-set, length-replicate, get_or_past, get_or-set_same, get_or-set_other, is_in, members, first_bits, AreBlockCounts, AreTrimmed}
 use Rattle.std.proofs.lemmas.Bool.{ne_eqb}
 use Rattle.enabled_set.specs.Members.{has_bit, is_bit_on}
 use Rattle.enabled_set.proofs.Bits.{first_some, has_none}
@@ -24,24 +24,13 @@ zero_word word fits none =
 
 -- 1,024 words have a bit for each name
 pub bits_all : (words : List ℕ) → length words ≡ 1024 → (v : ℕ) → is_in (first_bits 65536 words) v ≡ is_bit_on words v
-bits_all words room v =
-    ⊎_elim
-    (λ (there : v < 65536). in_places 65536 words v there)
-    (λ (past : 65536 ≤ v).
-    get_or_past (first_bits 65536 words) v false (let len = length-places_of 65536 words in omega (arith, len, past))
-    ∙ sym (off_word words v (get_or_past words (v / 64) 0 (omega (arith, past, room)))))
-    (cases_lt v 65536)
+bits_all words room v = grind (arith, cases_lt, get_or_past, in_places, length-places_of, off_word)
 
 -- ---- trimmed words
 
 -- the words after a scan back from an index, if they are 0 from there on
 pub trimmed_again : (words : List ℕ) (used end : ℕ) → length words ≡ 1024 → used ≤ 1024 → ((i : ℕ) → used ≤ i → get_or words i 0 ≡ 0) → end ≤ used → ((i : ℕ) → end ≤ i → i < used → get_or words i 0 ≡ 0) → (1 ≤ end → 1 ≤ get_or words (end - 1) 0) → AreTrimmed words end
-trimmed_again words used end room most past within off last = record {
-  room = room;
-  within = omega (arith, most, within);
-  off = λ i from. ⊎_elim (λ (low : i < used). off i from low) (λ (high : used ≤ i). past i high) (cases_lt i used);
-  last = last;
-}
+trimmed_again words used end room most past within off last = grind (arith, cases_lt)
 
 -- the set is empty exactly if no word has a bit
 pub empty_is : (words : List ℕ) (used : ℕ) → ((i : ℕ) → get_or words i 0 < 18446744073709551616) → AreTrimmed words used → nat_eq used 0 ≡ nat_eq (length (members (first_bits 65536 words))) 0
@@ -80,24 +69,16 @@ empty_bits words is = places_are 65536 words (replicate 65536 false) (length-rep
 
 -- ---- a name goes
 
-cases_at : (a b : ℕ) → (a ≡ b) ⊎ (a ≢ b)
-cases_at a b = ⊎_elim (λ (low : a < b). inr (λ e. omega (arith, low, e))) (λ (high : b ≤ a). ⊎_elim (λ (more : b < a). inr (λ e. omega (arith, more, e))) (λ (most : a ≤ b). inl (omega (arith, high, most))) (cases_lt b a)) (cases_lt a b)
-
 -- a word that lost a bit has no bit more
 pub bits_left : (word read at : ℕ) → has_bit word at ≡ false → ((i : ℕ) → i < 64 → i ≢ at → has_bit word i ≡ has_bit read i) → (i : ℕ) → i < 64 → has_bit word i ≡ true → has_bit read i ≡ true
 bits_left word read at here others i low on =
-    ⊎_elim (λ (same : i ≡ at). absurd (true≢false (sym on ∙ ap (has_bit word) same ∙ here))) (λ (apart : i ≢ at). sym (others i low apart) ∙ on) (cases_at i at)
+    ⊎_elim (λ (same : i ≡ at). absurd (true≢false (sym on ∙ ap (has_bit word) same ∙ here))) (λ (apart : i ≢ at). sym (others i low apart) ∙ on) (cases_eq i at)
 
 -- the words from an index on are 0 still
 pub put_off : (words : List ℕ) (used k word : ℕ) → word < 18446744073709551616 → k < length words → ((i : ℕ) → used ≤ i → get_or words i 0 ≡ 0) → ((i : ℕ) → i < 64 → has_bit word i ≡ true → has_bit (get_or words k 0) i ≡ true) → (i : ℕ) → used ≤ i → get_or (set words k word) i 0 ≡ 0
 put_off words used k word fits there off fewer i past =
-    ⊎_elim
-    (λ (at : i ≡ k). ap (λ n. get_or (set words k word) n 0) at ∙ get_or-set_same words k word 0 there ∙ zero_word word fits (λ j low. none j low (off k (omega (arith, past, at)))))
-    (λ (apart : i ≢ k). get_or-set_other words k i word 0 apart ∙ off i past)
-    (cases_at i k)
-  where
-    none : (j : ℕ) → j < 64 → get_or words k 0 ≡ 0 → has_bit word j ≡ false
-    none j low is = grind (arith, fewer j low, has_none (get_or words k 0) j, bit_at-zero j)
+    let gone : get_or words k 0 ≡ 0 → word ≡ 0 = λ is. zero_word word fits (λ j low. grind (arith, fewer j low, has_none (get_or words k 0) j, bit_at-zero j)) in
+    grind (arith, cases_eq, get_or-set_other, get_or-set_same)
 
 pub put_bits : (words : List ℕ) (v word : ℕ) → length words ≡ 1024 → v < 65536 → has_bit word (v % 64) ≡ false → ((i : ℕ) → i < 64 → i ≢ (v % 64) → has_bit word i ≡ has_bit (get_or words (v / 64) 0) i) → first_bits 65536 (set words (v / 64) word) ≡ set (first_bits 65536 words) v false
 put_bits words v word room there here others =
@@ -127,37 +108,16 @@ met_on was other is each v = ap (λ w. has_bit w (v % 64)) (each (v / 64)) ∙ m
 
 -- bits that agree up to 65,535 agree, if there are no others
 pub copied_all : (words : List ℕ) (from : List Bool) (other : List ℕ) → length words ≡ 1024 → length from ≤ 65536 → ((v : ℕ) → is_in from v ≡ is_bit_on other v) → ((v : ℕ) → v < 65536 → is_bit_on words v ≡ is_bit_on other v) → (v : ℕ) → is_in (first_bits 65536 words) v ≡ is_in from v
-copied_all words from other room few same copied v =
-    ⊎_elim
-    (λ (there : v < 65536). bits_all words room v ∙ copied v there ∙ sym (same v))
-    (λ (past : 65536 ≤ v).
-    get_or_past (first_bits 65536 words) v false (let len = length-places_of 65536 words in omega (arith, len, past))
-    ∙ sym (get_or_past from v false (omega (arith, few, past))))
-    (cases_lt v 65536)
+copied_all words from other room few same copied v = grind (arith, bits_all, cases_lt, get_or_past, length-places_of)
 
 -- a block that was passed over
 pub lot_passed : (words other : List ℕ) (lot : ℕ) → ((i : ℕ) → 64 * lot ≤ i → get_or words i 0 ≡ 0) → ((v : ℕ) → 4096 * lot ≤ v → v < 4096 * lot + 4096 → is_bit_on other v ≡ false) → ((v : ℕ) → v < 4096 * lot → is_bit_on words v ≡ is_bit_on other v) → (v : ℕ) → v < 4096 * (lot + 1) → is_bit_on words v ≡ is_bit_on other v
-lot_passed words other lot off none so_far v low =
-    ⊎_elim
-    (λ (before : v < 4096 * lot). so_far v before)
-    (λ (past : 4096 * lot ≤ v). off_word words v (off (v / 64) (omega (arith, past))) ∙ sym (none v past (omega (arith, low))))
-    (cases_lt v (4096 * lot))
+lot_passed words other lot off none so_far v low = grind (arith, cases_lt, off_word)
 
 -- a block that was copied, up to the end of the words
 pub lot_copied : (was words other : List ℕ) (lot end : ℕ) → ((i : ℕ) → 64 * lot ≤ i → get_or was i 0 ≡ 0) → ((i : ℕ) → 64 * lot ≤ i → i < end → get_or words i 0 ≡ get_or other i 0) → ((i : ℕ) → (i < 64 * lot) ⊎ (end ≤ i) → get_or words i 0 ≡ get_or was i 0) → (end ≡ 64 * lot + 64) ⊎ (length other ≤ end) → ((v : ℕ) → v < 4096 * lot → is_bit_on was v ≡ is_bit_on other v) → (v : ℕ) → v < 4096 * (lot + 1) → is_bit_on words v ≡ is_bit_on other v
 unfolding is_bit_on
-lot_copied was words other lot end off copied others ends so_far v low =
-    ⊎_elim
-    (λ (before : v < 4096 * lot). ap (λ w. has_bit w (v % 64)) (others (v / 64) (inl (omega (arith, before)))) ∙ so_far v before)
-    (λ (past : 4096 * lot ≤ v).
-    let from : 64 * lot ≤ v / 64 = omega (arith, past) in
-    ap (λ w. has_bit w (v % 64)) (⊎_elim
-    (λ (within : v / 64 < end). copied (v / 64) from within)
-    (λ (beyond : end ≤ v / 64).
-    others (v / 64) (inr beyond) ∙ off (v / 64) from
-    ∙ sym (get_or_past other (v / 64) 0 (⊎_elim (λ (full : end ≡ 64 * lot + 64). absurd (omega (arith, full, beyond, low))) (λ (short : length other ≤ end). omega (arith, short, beyond)) ends)))
-    (cases_lt (v / 64) end)))
-    (cases_lt v (4096 * lot))
+lot_copied was words other lot end off copied others ends so_far v low = grind (arith, cases_lt, get_or_past)
 
 -- a block without members, by its count
 pub lot_none : (bits : List Bool) (counts : List ℕ) (lot v : ℕ) → AreBlockCounts bits 4096 counts → get_or counts lot 0 ≡ 0 → 4096 * lot ≤ v → v < 4096 * lot + 4096 → is_in bits v ≡ false

@@ -1,5 +1,5 @@
 -- Sums of what a list has at a place for each name.
-use Rattle.enabled_set.proofs.Prelude.{◌≡◌, ℕ, suc, ◌+◌, ◌*◌, ◌-◌, ◌<◌, ◌≤◌, Bool, true, false, cond, List, [], ◌∷◌, length, get_or, replicate, set, map, sum_by, sym, refl, ap, ◌∙◌, arith, All, range_with_len, le_trans, mul-le, ext_get_or, get_or-replicate, get_or_past, length-replicate, length-set, All-set, get_or-map-range_with_len, length-map-range_with_len, get_or-le-sum_by, sum_by-cons, sum_by-le, sum_by-set}
+use Rattle.enabled_set.proofs.Prelude.{◌≡◌, ℕ, suc, ◌+◌, ◌*◌, ◌-◌, ◌<◌, ◌≤◌, Bool, true, false, cond, List, [], ◌∷◌, length, get_or, replicate, set, map, sum_by, sym, refl, ap, ◌∙◌, arith, All, range_with_len, le_trans, mul-le, ext_get_or, get_or-replicate, get_or_past, length-replicate, length-set, All-set, get_or-map-range_with_len, length-map-range_with_len, get_or-le-sum_by, sum_by-cons, sum_by-le, sum_by-set, sum-map, get_or-map, length-map, fill_by_all}
 use mir.Val.{bool_byte}
 
 -- what is everywhere is at each place, and past the end
@@ -13,17 +13,10 @@ one_byte false = refl
 
 -- a sum over a list is one over its places
 by_places : {X : Type 0} (f : X → ℕ) (xs : List X) (d : X) → sum_by f xs ≡ sum_by (λ i. f (get_or xs i d)) (range_with_len 0 (length xs))
-by_places {X = X} f xs d =
-    ap (sum_by f) (ext_get_or d xs (map (λ i. get_or xs i d) (range_with_len 0 (length xs))) (sym (length-map-range_with_len (λ i. get_or xs i d) 0 (length xs))) (λ i within. sym (get_or-map-range_with_len (λ i. get_or xs i d) 0 (length xs) i i d within (omega arith))))
-    ∙ mapped (λ i. get_or xs i d) (range_with_len 0 (length xs))
-  where
-    mapped : (g : ℕ → X) (is : List ℕ) → sum_by f (map g is) ≡ sum_by (λ i. f (g i)) is
-    mapped g [] = refl
-    mapped g (i ∷ is) =
-        let left = sum_by-cons f (g i) (map g is) in
-        let right = sum_by-cons (λ i. f (g i)) i is in
-        let rest = mapped g is in
-        omega (arith, left, right, rest)
+by_places f xs d =
+    sym (sum-map f xs)
+    ∙ ap (λ l. sum_by (λ n. n) l) (fill_by_all (λ i. f (get_or xs i d)) (map f xs) (length xs) 0 (length-map xs f) (λ k low. get_or-map f xs k d 0 low))
+    ∙ sum-map (λ i. f (get_or xs i d)) (range_with_len 0 (length xs))
 
 -- the sum of the places is that of the names from 1 on, if place 0 is zero
 pub summed : {X : Type 0} (f : X → ℕ) (part : ℕ → ℕ) (size : ℕ) (xs : List X) (d : X) → length xs ≡ size + 1 → f (get_or xs 0 d) ≡ 0 → ((v : ℕ) → f (get_or xs v d) ≡ part v) → sum_by f xs ≡ sum_by part (range_with_len 1 size)
