@@ -1,6 +1,6 @@
 -- Ascending lists: such a list is the part of a range that it has, and it still ascends after an insertion or
 -- a removal.
-use Rattle.graph_store.proofs.Prelude.{◌≡◌, ◌≢◌, ℕ, ◌+◌, ◌-◌, ◌<◌, ◌≤◌, suc, zero, Bool, true, false, not, cond, ◌&&◌, ◌||◌, List, [], ◌∷◌, ◌++◌, length, eqb, get_or, take, drop, sym, refl, ap, ◌∙◌, arith, add-one, ⊎_elim, filter, range_with_len, insert, remove, IsStrictlyIncreasing, ne_eqb, eq-eqb, eqb-true, or_from, cases_eq, cases_lt, true≢false, or_right, cases_Bool, take-append-drop, get_or-take, get_or-drop, length-take, length-drop, get_or_default, length-insert, get_or-insert_below, get_or-insert_at, get_or-insert_above, length-remove, get_or-remove_below, get_or-remove_above, list_any-append, list_any_at, list_any_none, AllPairs-from_increasing, drop-cons, has, IsPlaceOf, IsGapFor}
+use Rattle.graph_store.proofs.Prelude.{◌≡◌, ◌≢◌, ℕ, ◌+◌, ◌-◌, ◌<◌, ◌≤◌, suc, zero, Bool, true, false, not, cond, ◌&&◌, ◌||◌, List, [], ◌∷◌, ◌++◌, length, eqb, get_or, take, drop, sym, refl, ap, ◌∙◌, arith, add-one, ⊎_elim, filter, range_with_len, insert, remove, IsStrictlyIncreasing, ne_eqb, eq-eqb, eqb-true, or_from, cases_eq, cases_lt, true≢false, or_right, take-append-drop, get_or-take, get_or-drop, length-take, length-drop, get_or_default, length-insert, get_or-insert_below, get_or-insert_at, get_or-insert_above, length-remove, get_or-remove_below, get_or-remove_above, list_any-append, list_any_at, list_any_none, AllPairs-from_increasing, drop-cons, has, IsPlaceOf, IsGapFor}
 
 -- the names rise, from a on
 unfoldable pub RisesFrom : ℕ → List ℕ → Type 0
@@ -70,12 +70,7 @@ part_of_names n (x ∷ xs) up within =
 -- a name that has a gap is not there
 pub absent_at_gap : (row : List ℕ) (w i : ℕ) → IsGapFor row w i → has row w ≡ false
 absent_at_gap row w i gap =
-    list_any_none (eqb w) row (λ k d inside. ne_eqb w (get_or row k d) (λ e.
-    let same : get_or row k d ≡ get_or row k 0 = get_or_default row k d 0 inside in
-    ⊎_elim
-    (λ (lt : k < i). let below = gap.below k lt in omega (arith, e, same))
-    (λ (le : i ≤ k). let above = gap.above k le inside in omega (arith, e, same))
-    (cases_lt k i)))
+    list_any_none (eqb w) row (λ k d inside. ne_eqb w (get_or row k d) (λ e. grind (arith, cases_lt, gap.above k, gap.below k, get_or_default row k d 0 inside)))
 
 -- a name that has a place is there
 pub there_at_place : (row : List ℕ) (w i : ℕ) → IsPlaceOf row w i → has row w ≡ true
@@ -95,12 +90,7 @@ has-insert row i w y =
 -- the name at another place is another name
 other_place : (row : List ℕ) (i k d : ℕ) → IsStrictlyIncreasing row → i < length row → k < length row → k ≢ i → eqb (get_or row i 0) (get_or row k d) ≡ false
 other_place row i k d up inside there apart =
-    ne_eqb _ _ (λ e.
-    let same : get_or row k d ≡ get_or row k 0 = get_or_default row k d 0 there in
-    ⊎_elim
-    (λ (lt : k < i). let below = AllPairs-from_increasing row up k i 0 lt inside in omega (arith, e, same))
-    (λ (le : i ≤ k). let above = AllPairs-from_increasing row up i k 0 (omega arith) there in omega (arith, e, same))
-    (cases_lt k i))
+    ne_eqb _ _ (λ e. grind (arith, cases_lt, get_or_default row k d 0 there, AllPairs-from_increasing row up k i 0, AllPairs-from_increasing row up i k 0))
 
 -- a name that comes once is gone when it is removed
 gone : (row : List ℕ) (i : ℕ) → IsStrictlyIncreasing row → i < length row → has (remove row i) (get_or row i 0) ≡ false
@@ -122,48 +112,17 @@ pub has-remove : (row : List ℕ) (i w y : ℕ) → IsStrictlyIncreasing row →
 has-remove row i w y up place =
     let inside : i < length row = place.0 in
     let parts : has row y ≡ (has (take i row) y || (eqb y (get_or row i 0) || has (drop (suc i) row) y)) = ap (λ l. has l y) (sym (take-append-drop i row) ∙ ap (λ l. take i row ++ l) (drop-cons row i 0 inside)) ∙ list_any-append (eqb y) (take i row) (get_or row i 0 ∷ drop (suc i) row) in
-    ⊎_elim
-    (λ (e : eqb y w ≡ true).
-    ap (has (remove row i)) (eqb-true y w e ∙ sym place.1) ∙ gone row i up inside ∙ sym (ap (λ b. not b && has row y) e))
-    (λ (e : eqb y w ≡ false).
-    list_any-append (eqb y) (take i row) (drop (suc i) row)
-    ∙ skip (has (take i row) y) (eqb y w) (has (drop (suc i) row) y) e
-    ∙ ap (λ b. not (eqb y w) && b) (ap (λ x. has (take i row) y || (eqb y x || has (drop (suc i) row) y)) (sym place.1) ∙ sym parts))
-    (cases_Bool (eqb y w))
+    grind (arith, eqb-true, gone, list_any-append)
 
 -- with a name put in at its gap a row still rises
 pub rising-insert : (row : List ℕ) (w i : ℕ) → IsStrictlyIncreasing row → IsGapFor row w i → IsStrictlyIncreasing (insert row i w)
 rising-insert row w i up gap k inside =
     let fits : i ≤ length row = gap.inside in
     let len = length-insert row i w fits in
-    ⊎_elim
-    (λ (lt : k < i). ⊎_elim
-    (λ (far : k + 1 < i). omega (arith, get_or-insert_below row i w 0 k lt fits, get_or-insert_below row i w 0 (k + 1) far fits, up k (omega arith)))
-    (λ (near : i ≤ k + 1).
-    let e : i ≡ k + 1 = omega arith in
-    omega (arith, get_or-insert_below row i w 0 k lt fits, ap (λ j. get_or (insert row i w) j 0) (sym e) ∙ get_or-insert_at row i w 0 fits, gap.below k lt))
-    (cases_lt (k + 1) i))
-    (λ (le : i ≤ k). ⊎_elim
-    (λ (far : i < k).
-    let e : k - 1 + 1 ≡ k = omega arith in
-    let here = ap (λ j. get_or (insert row i w) j 0) (sym e) ∙ get_or-insert_above row i w 0 (k - 1) (omega arith) fits in
-    let rises = up (k - 1) (omega arith) in
-    let same = ap (λ j. get_or row j 0) e in
-    omega (arith, here, same, rises, get_or-insert_above row i w 0 k le fits))
-    (λ (near : k ≤ i).
-    let e : k ≡ i = omega arith in
-    omega (arith, ap (λ j. get_or (insert row i w) j 0) e ∙ get_or-insert_at row i w 0 fits, get_or-insert_above row i w 0 k le fits, gap.above k le (omega arith)))
-    (cases_lt i k))
-    (cases_lt k i)
+    grind (arith, cases_lt, gap.above k, gap.below k, get_or-insert_above, get_or-insert_at, get_or-insert_below, up k, up (k - 1))
 
 -- with a name taken out a row still rises
 pub rising-remove : (row : List ℕ) (i : ℕ) → IsStrictlyIncreasing row → i < length row → IsStrictlyIncreasing (remove row i)
 rising-remove row i up there k inside =
     let len = length-remove row i there in
-    ⊎_elim
-    (λ (lt : k < i). ⊎_elim
-    (λ (far : k + 1 < i). omega (arith, get_or-remove_below row i 0 k lt there, get_or-remove_below row i 0 (k + 1) far there, up k (omega arith)))
-    (λ (near : i ≤ k + 1). omega (arith, get_or-remove_below row i 0 k lt there, get_or-remove_above row i 0 (k + 1) near there, up k (omega arith), up (k + 1) (omega arith)))
-    (cases_lt (k + 1) i))
-    (λ (le : i ≤ k). omega (arith, get_or-remove_above row i 0 k le there, get_or-remove_above row i 0 (k + 1) (omega arith) there, up (k + 1) (omega arith)))
-    (cases_lt k i)
+    grind (arith, cases_lt, get_or-remove_above, get_or-remove_below, up k, up (k + 1))

@@ -21,8 +21,7 @@ same_row old new v d inside inside' same = (
 
 -- a vector written at an index changes no other
 pub row_elsewhere : (rows : List (Vec ℕ Global)) (p v : ℕ) (x : Vec ℕ Global) → v ≢ p → v < length rows → (row_at (contents (set rows p x)) v ≡ row_at (contents rows) v) × (spare_at (set rows p x) v ≡ spare_at rows v)
-row_elsewhere rows p v x apart inside =
-    same_row rows (set rows p x) v x inside (let len = length-set rows p x in omega (arith, len, inside)) (get_or-set_other rows p v x x apart)
+row_elsewhere rows p v x apart inside = same_row rows (set rows p x) v x inside (grind (arith, length-set)) (get_or-set_other rows p v x x apart)
 
 -- and its names and its room are what is there then
 pub row_written : (rows : List (Vec ℕ Global)) (p : ℕ) (x : Vec ℕ Global) → p < length rows → (row_at (contents (set rows p x)) p ≡ x.items) × (spare_at (set rows p x) p ≡ vec_capacity x - vec_len x)
@@ -43,9 +42,7 @@ found row name (Err i) gap = sym (absent_at_gap row name i gap)
 pub lower_by_one : (old new : List ℕ) → length new ≡ length old → ((k : ℕ) → k + 1 < length old → get_or new k 0 ≡ get_or old (k + 1) 0) → take (length old - 1) new ≡ drop 1 old
 lower_by_one old new same moved =
     ext_get_or 0 (take (length old - 1) new) (drop 1 old) (omega (arith, length-take (length old - 1) new, length-drop 1 old))
-    (λ k lt.
-    let inside : k + 1 < length old = omega (arith, lt, length-take (length old - 1) new) in
-    get_or-take (length old - 1) new k 0 (omega arith) ∙ moved k inside ∙ ap (λ i. get_or old i 0) (omega arith) ∙ sym (get_or-drop 1 old k 0))
+    (λ k lt. let inside : k + 1 < length old = omega (arith, lt, length-take (length old - 1) new) in grind (arith, get_or-drop, get_or-take))
 
 -- a name is removed if those after it moved down by one place and the last was dropped
 pub taken_out : (row tail past rest : List ℕ) (len place : ℕ) → len ≡ length row → place < length row → length tail ≡ length (take (length row - place) (drop place row)) → take (length (take (length row - place) (drop place row)) - 1) tail ≡ drop 1 (take (length row - place) (drop place row)) → take (len - 1) (take len ((take place row ++ (tail ++ past)) ++ rest)) ≡ remove row place

@@ -11,21 +11,11 @@ out_of_order a b h = grind (arith, nat_tests)
 
 -- the upper half, if the name in the middle is not above
 pub upper_half : (row : List ℕ) (name start size : ℕ) → IsStrictlyIncreasing row → IsPartFor row name start size → get_or row (start + size / 2) 0 ≤ name → IsPartFor row name (start + size / 2) (size - size / 2)
-upper_half row name start size up part low = record {
-  inside = omega (arith, part.inside);
-  some = omega (arith, part.some);
-  below = λ k lt. let less = AllPairs-from_increasing row up k (start + size / 2) 0 lt (omega (arith, part.inside, part.some)) in omega (arith, less, low);
-  above = λ k ge lt. part.above k (omega (arith, ge)) lt;
-}
+upper_half row name start size up part low = grind (arith, AllPairs-from_increasing row up)
 
 -- the lower half, if it is
 pub lower_half : (row : List ℕ) (name start size : ℕ) → IsStrictlyIncreasing row → IsPartFor row name start size → name < get_or row (start + size / 2) 0 → IsPartFor row name start (size - size / 2)
-lower_half row name start size up part high = record {
-  inside = omega (arith, part.inside);
-  some = omega (arith, part.some);
-  below = part.below;
-  above = λ k ge lt. let le = never_falls row up (start + size / 2) k (omega (arith, ge)) lt in omega (arith, le, high);
-}
+lower_half row name start size up part high = grind (arith, never_falls row up)
 
 -- after each turn a part is at most half as long
 pub halved : (turn size half : ℕ) → turn < 6 → size ≤ 2 ^ (6 - turn) → half ≡ size - size / 2 → half ≤ 2 ^ (6 - (turn + 1))

@@ -1,5 +1,5 @@
 -- A node that leaves: its edges go one by one from its last neighbour, and then its place.
-use Rattle.graph_store.proofs.Prelude.{◌≡◌, ℕ, ◌-◌, ◌<◌, ◌≤◌, min, max, Bool, true, false, not, cond, ◌&&◌, List, [], ◌∷◌, length, eqb, leb, ltb, get_or, set, Option, None, Some, sym, refl, ap, subst, ◌∙◌, arith, ⊎_elim, slice_get, MatchOption, and_parts, or_cases, or_left, or_right, eqb-true, eq-eqb, ne_eqb, cases_lt, true≢false, get_or-set_other, length-set, slice_get-get_or, Network, PairSet, present, linked, neighbours, edge, edge_count, is_end, without_edge, without_node, UnknownNode, leave_fault, unlink_fault, has, row_at, edges_of, network_of, IsRows, IsStore, IsPlaceOf, contains-without, and-false}
+use Rattle.graph_store.proofs.Prelude.{◌≡◌, ℕ, ◌-◌, ◌<◌, ◌≤◌, Bool, true, false, not, cond, ◌&&◌, List, [], ◌∷◌, length, leb, get_or, set, Option, None, Some, sym, refl, ap, subst, ◌∙◌, arith, slice_get, MatchOption, or_cases, eqb-true, ne_eqb, cases_lt, true≢false, get_or-set_other, length-set, slice_get-get_or, Network, PairSet, present, linked, neighbours, edge, edge_count, is_end, without_edge, without_node, UnknownNode, leave_fault, unlink_fault, has, row_at, edges_of, network_of, IsRows, IsStore, IsPlaceOf, contains-without, nat_tests}
 use Rattle.std.specs.FinMap as map
 use Rattle.graph_store.proofs.PairOrder.{same_pair, has-remove, count-remove, same_pairs}
 use Rattle.graph_store.proofs.Pairs.{has-edges_of}
@@ -13,14 +13,7 @@ left_out e s h so = grind arith
 
 -- a name is an end of the edges at it
 ends_at : (v w a b : ℕ) → same_pair (a, b) (edge v w) ≡ true → is_end v (a, b) ≡ true
-ends_at v w a b h =
-    let both = and_parts (eqb a (min v w)) (eqb b (max v w)) h in
-    let low : a ≡ min v w = eqb-true a (min v w) both.0 in
-    let high : b ≡ max v w = eqb-true b (max v w) both.1 in
-    ⊎_elim
-    (λ (lt : v < w). or_left (eqb a v) (eqb b v) (eq-eqb a v (omega (arith, low, lt))))
-    (λ (le : w ≤ v). or_right (eqb a v) (eqb b v) (eq-eqb b v (omega (arith, high, le))))
-    (cases_lt v w)
+ends_at v w a b h = grind (arith, cases_lt, nat_tests)
 
 -- removing an edge at v before v leaves the same network as removing v with its edges
 pub without_edge_at : (net : Network) (v w : ℕ) → without_node (without_edge net v w) v ≡ without_node net v
@@ -99,12 +92,7 @@ as_it_was e h so = grind arith
 -- a name whose row is empty is no end of an edge
 no_end : (size : ℕ) (roll : List Bool) (rows : List (List ℕ)) (v a b : ℕ) → IsRows size roll rows → row_at rows v ≡ [] → is_end v (a, b) ≡ true → map.contains_key (edges_of rows) (a, b) ≡ false
 no_end size roll rows v a b good alone h =
-    let absent : has (row_at rows a) b ≡ false =
-    ⊎_elim
-    (λ (first : eqb a v ≡ true). ap (λ x. has (row_at rows x) b) (eqb-true a v first) ∙ ap (λ row. has row b) alone)
-    (λ (second : eqb b v ≡ true). ap (has (row_at rows a)) (eqb-true b v second) ∙ nobody_has size roll rows v a good alone)
-    (or_cases (eqb a v) (eqb b v) h) in
-    has-edges_of rows a b ∙ ap (λ t. ltb a b && t) absent ∙ and-false (ltb a b)
+    grind (arith, eqb-true, has-edges_of, nobody_has, or_cases)
 
 -- and the network is the one without the node
 pub parted_network : (size : ℕ) (roll : List Bool) (rows : List (List ℕ)) (v : ℕ) → IsRows size roll rows → row_at rows v ≡ [] → network_of size (set roll v false) rows ≡ without_node (network_of size roll rows) v

@@ -1,5 +1,5 @@
 -- What a set of pairs has after a change.
-use Rattle.graph_store.proofs.Prelude.{◌≡◌, ℕ, Bool, true, false, cond, not, ◌&&◌, ◌||◌, ◌+◌, ◌-◌, List, [], ◌∷◌, eqb, sym, ap, ◌∙◌, ◌<◌, ◌≤◌, ⊎_elim, arith, cases_lt, true≢false, list_any, eq_by_cmp, nat_cmp, both_tied, unsigned_ties, pair_cmp, pair_set, PairSet, pair_total, pair_exact, contains-insert, contains-remove, contains-empty, unit_some}
+use Rattle.graph_store.proofs.Prelude.{◌≡◌, ℕ, Bool, true, false, cond, not, ◌&&◌, ◌||◌, ◌+◌, ◌-◌, List, [], ◌∷◌, eqb, sym, ap, ◌∙◌, ◌≤◌, arith, cases_lt, list_any, eq_by_cmp, nat_cmp, both_tied, unsigned_ties, pair_cmp, pair_set, PairSet, pair_total, pair_exact, contains-insert, contains-remove, contains-empty, unit_some}
 use Rattle.std.specs.FinMap as map
 
 -- whether two pairs are one
@@ -35,12 +35,8 @@ count-remove s p there = map.len-remove pair_total s p ∙ ap (λ b. cond b (map
 -- a set with a pair has one to count
 pub count-some : (s : PairSet) (p : ℕ × ℕ) → map.contains_key s p ≡ true → 1 ≤ map.len s
 count-some s p there =
-    ⊎_elim
-    (λ (lt : 0 < map.len s). lt)
-    (λ (le : map.len s ≤ 0).
-    let none : map.len s ≡ 0 = omega arith in
-    absurd (true≢false (sym there ∙ ap (λ t. map.contains_key t p) (map.empty_of_len s none) ∙ contains-empty p)))
-    (cases_lt 0 (map.len s))
+    let none = map.empty_of_len s in
+    grind (arith, cases_lt, contains-empty)
 
 -- an empty set has no pair to count
 pub count-empty : map.len (map.empty {X = Unit {0}} {R = pair_cmp}) ≡ 0

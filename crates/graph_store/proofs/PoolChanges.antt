@@ -1,6 +1,6 @@
 -- What a change of one head, of a part of the pool or of one vector does to the lists, the room and the
 -- invariant of a pool.
-use Rattle.graph_store.proofs.Prelude.{◌≡◌, ◌≢◌, ℕ, ◌+◌, ◌*◌, ◌-◌, ◌<◌, ◌≤◌, inl, inr, List, [], map, length, get_or, set, cond, replicate, sym, refl, ap, subst, ◌∙◌, arith, ⊎_elim, cases_lt, cases_eq, Vec, Global, vec_len, vec_capacity, ext_get_or, get_or-replicate, length-replicate, length-set, get_or-map, get_or-set_same, get_or-set_other, range_with_len, contents, row_at, Head, no_head, row_of, room_of, spare_at, head_at, is_long, names_at, AreDisjointParts, IsPool}
+use Rattle.graph_store.proofs.Prelude.{◌≡◌, ◌≢◌, ℕ, ◌+◌, ◌*◌, ◌-◌, ◌<◌, ◌≤◌, List, [], map, length, get_or, set, cond, replicate, sym, refl, ap, subst, ◌∙◌, arith, ⊎_elim, cases_lt, cases_eq, Vec, Global, vec_len, vec_capacity, ext_get_or, get_or-replicate, length-replicate, length-set, get_or-map, get_or-set_same, get_or-set_other, range_with_len, contents, row_at, Head, no_head, row_of, room_of, spare_at, head_at, is_long, names_at, AreDisjointParts, IsPool}
 use Rattle.graph_store.specs.RowPools.{lists_of, rooms_of}
 use Rattle.graph_store.proofs.Contents.{row_read, row_elsewhere, row_written}
 use Rattle.graph_store.proofs.PooledRows.{IsHead, length_lists, list_read, lists_kept, lists_set, names_len, room_read, rooms_kept, room_inside, row_inside, head_inside, head_owned, row_seen, short_is, long_is, short_room, long_room}
@@ -15,19 +15,11 @@ each_head P heads v h inside here others w =
 
 -- a row is as it was if its part of the pool is, or its vector
 row_kept : (pool pool' : List ℕ) (long long' : List (Vec ℕ Global)) (h : Head) (v : ℕ) → (h.len ≤ 64 → names_at pool' h.start h.len ≡ names_at pool h.start h.len) → (64 < h.len → row_at (contents long') v ≡ row_at (contents long) v) → row_of pool' long' h v ≡ row_of pool long h v
-row_kept pool pool' long long' h v short many =
-    ⊎_elim
-    (λ (lt : 64 < h.len). long_is pool' long' h v lt ∙ many lt ∙ sym (long_is pool long h v lt))
-    (λ (le : h.len ≤ 64). short_is pool' long' h v le ∙ short le ∙ sym (short_is pool long h v le))
-    (cases_lt 64 h.len)
+row_kept pool pool' long long' h v short many = grind (arith, cases_lt, long_is, short_is)
 
 -- a list keeps its room if its vector does
 room_kept : (long long' : List (Vec ℕ Global)) (h : Head) (v : ℕ) → (64 < h.len → 0 < spare_at long v → 0 < spare_at long' v) → 0 < room_of long h v → 0 < room_of long' h v
-room_kept long long' h v kept some =
-    ⊎_elim
-    (λ (lt : 64 < h.len). let before = long_room long h v lt in let after = long_room long' h v lt in let now = kept lt (omega (arith, before, some)) in omega (arith, after, now))
-    (λ (le : h.len ≤ 64). let before = short_room long h v le in let after = short_room long' h v le in omega (arith, before, after, some))
-    (cases_lt 64 h.len)
+room_kept long long' h v kept some = grind (arith, cases_lt, long_room, short_room)
 
 -- vectors with the same names stand for the same lists
 pub long_same : (heads : List Head) (pool : List ℕ) (long long' : List (Vec ℕ Global)) → contents long' ≡ contents long → lists_of heads pool long' ≡ lists_of heads pool long
@@ -82,14 +74,7 @@ names_seen heads pool long lists v h seen head few = sym (short_is pool long h v
 
 -- a block apart from another holds the row of its head
 pub block_apart : (heads : List Head) (pool : List ℕ) (long : List (Vec ℕ Global)) (v w : ℕ) (h : Head) (len : ℕ) → IsPool heads pool long → IsHead heads v h → w ≢ v → len ≤ 16 * h.units → (head_at heads w).len ≤ 64 → AreDisjointParts (head_at heads w).start (head_at heads w).len h.start len
-block_apart heads pool long v w h len good head apart fits few =
-    let start = ap (λ (k : Head). k.start) head.is in
-    let units = ap (λ (k : Head). k.units) head.is in
-    let row = good.fits w few in
-    ⊎_elim
-    (λ (before : (head_at heads w).start + 16 * (head_at heads w).units ≤ (head_at heads v).start). inl (omega (arith, before, start, row)))
-    (λ (after : (head_at heads v).start + 16 * (head_at heads v).units ≤ (head_at heads w).start). inr (omega (arith, after, start, units, fits)))
-    (good.apart w v apart)
+block_apart heads pool long v w h len good head apart fits few = grind (arith, good.apart w v, good.fits w)
 
 -- a changed part of the pool changes the list of its head alone
 pub block_changed : (heads : List Head) (pool pool' : List ℕ) (long : List (Vec ℕ Global)) (lists : List (List ℕ)) (v : ℕ) (h : Head) (len size : ℕ) (row : List ℕ) → IsPool heads pool long → lists_of heads pool long ≡ lists → IsHead heads v h → len ≤ 64 → size ≤ 16 * h.units → names_at pool' h.start len ≡ row → ((s n : ℕ) → AreDisjointParts s n h.start size → names_at pool' s n ≡ names_at pool s n) → lists_of (set heads v (record { start = h.start; len = len; units = h.units })) pool' long ≡ set lists v row
@@ -106,48 +91,16 @@ block_changed heads pool pool' long lists v h len size row good seen head few fi
 -- a head with another length keeps the invariant
 pub block_kept : (heads : List Head) (pool pool' : List ℕ) (long : List (Vec ℕ Global)) (v : ℕ) (h : Head) (len : ℕ) → IsPool heads pool long → IsHead heads v h → length pool' ≡ length pool → len ≤ 64 → len ≤ 16 * h.units → IsPool (set heads v (record { start = h.start; len = len; units = h.units })) pool' long
 block_kept heads pool pool' long v h len good head same few fits =
-    let h' : Head = record { start = h.start; len = len; units = h.units } in
-    let heads' = set heads v h' in
-    let start = each_head (λ w x. x.start ≡ (head_at heads w).start) heads v h' head.inside (ap (λ (k : Head). k.start) head.is) (λ w _. refl) in
-    let units = each_head (λ w x. x.units ≡ (head_at heads w).units) heads v h' head.inside (ap (λ (k : Head). k.units) head.is) (λ w _. refl) in
-    record {
-      small = λ w. let u = units w in let small = good.small w in omega (arith, u, small);
-      fits = each_head (λ w x. x.len ≤ 64 → x.len ≤ 16 * x.units) heads v h' head.inside (λ _. fits) (λ w _. good.fits w);
-      inside = λ w. let s = start w in let u = units w in let inside = good.inside w in omega (arith, s, u, inside, same);
-      apart = λ a b ne.
-          let sa = start a in let ua = units a in let sb = start b in let ub = units b in
-          ⊎_elim
-          (λ (before : (head_at heads a).start + 16 * (head_at heads a).units ≤ (head_at heads b).start). inl (omega (arith, before, sa, ua, sb)))
-          (λ (after : (head_at heads b).start + 16 * (head_at heads b).units ≤ (head_at heads a).start). inr (omega (arith, after, sa, sb, ub)))
-          (good.apart a b ne);
-      owned = each_head (λ w x. 64 < x.len → w < length long) heads v h' head.inside (λ many. absurd (omega (arith, many, few))) (λ w _. good.owned w);
-    }
+    grind (arith, cases_eq, get_or-set_other, get_or-set_same)
 
 -- other lists keep their room if one head changes
 pub head_rooms_elsewhere : (heads : List Head) (long : List (Vec ℕ Global)) (v : ℕ) (h' : Head) (w : ℕ) → w ≢ v → 0 < get_or (rooms_of heads long) w 0 → 0 < get_or (rooms_of (set heads v h') long) w 0
-head_rooms_elsewhere heads long v h' w apart some =
-    let inside = room_inside heads long w some in
-    let before = room_read heads long w inside in
-    let after = room_read (set heads v h') long w (let len = length-set heads v h' in omega (arith, len, inside)) in
-    let same = ap (λ (k : Head). room_of long k w) (get_or-set_other heads v w h' no_head apart) in
-    omega (arith, before, after, same, some)
+head_rooms_elsewhere heads long v h' w apart some = grind (arith, get_or-set_other, length-set, room_inside, room_read)
 
 -- a row moved into a larger block at the end of a pool leaves a pool
 pub moved_kept : (heads : List Head) (pool pool' : List ℕ) (long : List (Vec ℕ Global)) (v : ℕ) (h : Head) → IsPool heads pool long → IsHead heads v h → h.len ≤ 64 → h.units < 4 → length pool + 16 * (h.units + 1) ≤ length pool' → IsPool (set heads v (record { start = length pool; len = h.len; units = h.units + 1 })) pool' long
 moved_kept heads pool pool' long v h good head few small room =
-    let h' : Head = record { start = length pool; len = h.len; units = h.units + 1 } in
-    let heads' = set heads v h' in
-    let row = subst (λ (k : Head). k.len ≤ 64 → k.len ≤ 16 * k.units) (sym head.is) (good.fits v) few in
-    let below : (w : ℕ) → (head_at heads w).start + 16 * (head_at heads w).units ≤ length pool = good.inside in
-    record {
-      small = each_head (λ w x. x.units ≤ 4) heads v h' head.inside (omega (arith, small)) (λ w _. good.small w);
-      fits = each_head (λ w x. x.len ≤ 64 → x.len ≤ 16 * x.units) heads v h' head.inside (λ _. omega (arith, row)) (λ w _. good.fits w);
-      inside = each_head (λ w x. x.start + 16 * x.units ≤ length pool') heads v h' head.inside room (λ w _. let low = below w in omega (arith, low, room));
-      apart = each_head (λ a x. (b : ℕ) → (a ≡ b → ⊥) → AreDisjointParts x.start (16 * x.units) (head_at heads' b).start (16 * (head_at heads' b).units)) heads v h' head.inside
-          (λ b ne. each_head (λ w y. (v ≡ w → ⊥) → AreDisjointParts h'.start (16 * h'.units) y.start (16 * y.units)) heads v h' head.inside (λ no. absurd (no refl)) (λ w _ _. inr (below w)) b ne)
-          (λ a apart b ne. each_head (λ w y. (a ≡ w → ⊥) → AreDisjointParts (head_at heads a).start (16 * (head_at heads a).units) y.start (16 * y.units)) heads v h' head.inside (λ _. inl (below a)) (λ w _ other. good.apart a w other) b ne);
-      owned = each_head (λ w x. 64 < x.len → w < length long) heads v h' head.inside (λ many. absurd (omega (arith, many, few))) (λ w _. good.owned w);
-    }
+    grind (arith, cases_eq, get_or-set_other, get_or-set_same)
 
 -- with the same lists
 pub moved_same : (heads : List Head) (pool pool' : List ℕ) (long : List (Vec ℕ Global)) (v : ℕ) (h h' : Head) → IsPool heads pool long → IsHead heads v h → h.len ≤ 64 → h'.len ≡ h.len → names_at pool' h'.start h.len ≡ names_at pool h.start h.len → ((s n : ℕ) → s + n ≤ length pool → names_at pool' s n ≡ names_at pool s n) → lists_of (set heads v h') pool' long ≡ lists_of heads pool long
@@ -166,24 +119,11 @@ longer_same heads pool pool' long good kept =
 
 -- a larger block has room, and all others keep theirs
 pub moved_room : (heads : List Head) (long : List (Vec ℕ Global)) (v : ℕ) (h' : Head) → v < length heads → h'.len ≤ 64 → h'.len < 16 * h'.units → 0 < get_or (rooms_of (set heads v h') long) v 0
-moved_room heads long v h' inside few room =
-    let read = room_read (set heads v h') long v (let len = length-set heads v h' in omega (arith, len, inside)) in
-    let same = ap (λ (k : Head). room_of long k v) (get_or-set_same heads v h' no_head inside) in
-    let is = short_room long h' v few in
-    omega (arith, read, same, is, room)
+moved_room heads long v h' inside few room = grind (arith, get_or-set_same, length-set, room_read, short_room)
 
 pub rooms_with : (heads : List Head) (long long' : List (Vec ℕ Global)) (v : ℕ) (h' : Head) → v < length heads → 0 < get_or (rooms_of (set heads v h') long') v 0 → ((w : ℕ) → w ≢ v → 64 < (head_at heads w).len → 0 < spare_at long w → 0 < spare_at long' w) → (w : ℕ) → 0 < get_or (rooms_of heads long) w 0 → 0 < get_or (rooms_of (set heads v h') long') w 0
 rooms_with heads long long' v h' here made kept w some =
-    ⊎_elim
-    (λ (e : w ≡ v). subst (λ k. 0 < get_or (rooms_of (set heads v h') long') k 0) (sym e) made)
-    (λ (apart : w ≢ v).
-    let inside = room_inside heads long w some in
-    let before = room_read heads long w inside in
-    let after = room_read (set heads v h') long' w (let len = length-set heads v h' in omega (arith, len, inside)) in
-    let same = ap (λ (k : Head). room_of long' k w) (get_or-set_other heads v w h' no_head apart) in
-    let now = room_kept long long' (head_at heads w) w (kept w apart) (omega (arith, before, some)) in
-    omega (arith, after, same, now))
-    (cases_eq w v)
+    grind (arith, cases_eq, get_or-set_other, length-set, room_inside, room_kept, room_read)
 
 -- a row that has a vector of its own now is as it was, and so are all others
 pub out_same : (heads : List Head) (pool : List ℕ) (long long' : List (Vec ℕ Global)) (v : ℕ) (h h' : Head) → IsPool heads pool long → IsHead heads v h → h.len ≤ 64 → 64 < h'.len → row_at (contents long') v ≡ names_at pool h.start h.len → ((w : ℕ) → w ≢ v → w < length long → row_at (contents long') w ≡ row_at (contents long) w) → lists_of (set heads v h') pool long' ≡ lists_of heads pool long
@@ -199,11 +139,7 @@ out_same heads pool long long' v h h' good head few many row kept =
     (cases_eq w v))
 
 pub out_room : (heads : List Head) (long : List (Vec ℕ Global)) (v : ℕ) (h' : Head) → v < length heads → 64 < h'.len → 0 < spare_at long v → 0 < get_or (rooms_of (set heads v h') long) v 0
-out_room heads long v h' inside many room =
-    let read = room_read (set heads v h') long v (let len = length-set heads v h' in omega (arith, len, inside)) in
-    let same = ap (λ (k : Head). room_of long k v) (get_or-set_same heads v h' no_head inside) in
-    let is = long_room long h' v many in
-    omega (arith, read, same, is, room)
+out_room heads long v h' inside many room = grind (arith, get_or-set_same, length-set, long_room, room_read)
 
 -- vectors that none of these rows has may change
 pub others_same : (heads : List Head) (pool : List ℕ) (long long' : List (Vec ℕ Global)) (v : ℕ) (h : Head) → IsPool heads pool long → IsHead heads v h → h.len ≤ 64 → ((w : ℕ) → w ≢ v → w < length long → row_at (contents long') w ≡ row_at (contents long) w) → lists_of heads pool long' ≡ lists_of heads pool long

@@ -1,5 +1,5 @@
 -- The lists in a pool: how each is read, and what a change of a part of the pool or of one head leaves.
-use Rattle.graph_store.proofs.Prelude.{◌≡◌, ◌≢◌, ℕ, ◌+◌, ◌*◌, ◌-◌, ◌<◌, ◌≤◌, List, [], ◌++◌, length, take, drop, get_or, set, sym, subst, ap, ◌∙◌, arith, ⊎_elim, cases_lt, cases_eq, Vec, Global, insert, remove, ext_get_or, get_or-take, get_or-drop, length-take-le, get_or_default, length-set, get_or_past, get_or-set_same, get_or-set_other, length-insert, get_or-insert_below, get_or-insert_at, get_or-insert_above, length-remove, get_or-remove_below, get_or-remove_above, length-map-range_with_len, get_or-map-range_with_len, lt-ltb, le-ltb, cond, contents, row_at, Head, no_head, row_of, room_of, spare_at, head_at, names_at, AreDisjointParts, IsPool}
+use Rattle.graph_store.proofs.Prelude.{◌≡◌, ◌≢◌, ℕ, ◌+◌, ◌*◌, ◌-◌, ◌<◌, ◌≤◌, List, [], length, drop, get_or, set, sym, subst, ap, ◌∙◌, arith, ⊎_elim, cases_lt, cases_eq, Vec, Global, insert, remove, ext_get_or, get_or-take, get_or-drop, length-take-le, get_or_default, length-set, get_or_past, get_or-set_same, get_or-set_other, length-insert, get_or-insert_below, get_or-insert_at, get_or-insert_above, length-remove, get_or-remove_below, get_or-remove_above, length-map-range_with_len, get_or-map-range_with_len, lt-ltb, le-ltb, cond, contents, row_at, Head, no_head, row_of, room_of, spare_at, head_at, names_at, AreDisjointParts, IsPool}
 use Rattle.graph_store.specs.RowPools.{lists_of, rooms_of}
 use Rattle.std.proofs.Common.{length-take, length-drop, length-append}
 use Rattle.std.proofs.lemmas.List.{get_or-append_right, get_or_append_left}
@@ -26,46 +26,22 @@ room_read heads long v inside = get_or-map-range_with_len (λ w. room_of long (h
 
 -- a list with room has a head
 pub room_inside : (heads : List Head) (long : List (Vec ℕ Global)) (v : ℕ) → 0 < get_or (rooms_of heads long) v 0 → v < length heads
-room_inside heads long v some =
-    ⊎_elim
-    (λ (lt : v < length heads). lt)
-    (λ (le : length heads ≤ v). absurd (let none = get_or_past (rooms_of heads long) v 0 (let len = length_rooms heads long in omega arith) in omega (arith, none, some)))
-    (cases_lt v (length heads))
+room_inside heads long v some = grind (arith, cases_lt, get_or_past, length_rooms)
 
 -- lists that keep their room
 pub rooms_kept : (heads heads' : List Head) (long long' : List (Vec ℕ Global)) → length heads' ≡ length heads → ((v : ℕ) → v < length heads → 0 < room_of long (head_at heads v) v → 0 < room_of long' (head_at heads' v) v) → (v : ℕ) → 0 < get_or (rooms_of heads long) v 0 → 0 < get_or (rooms_of heads' long') v 0
-rooms_kept heads heads' long long' same kept v some =
-    let inside = room_inside heads long v some in
-    let before = room_read heads long v inside in
-    let after = room_read heads' long' v (omega (arith, same, inside)) in
-    let now = kept v inside (omega (arith, before, some)) in
-    omega (arith, after, now)
+rooms_kept heads heads' long long' same kept v some = grind (arith, room_inside, room_read)
 
 -- all lists are as they were
 pub lists_kept : (heads heads' : List Head) (pool pool' : List ℕ) (long long' : List (Vec ℕ Global)) → length heads' ≡ length heads → ((v : ℕ) → v < length heads → row_of pool' long' (head_at heads' v) v ≡ row_of pool long (head_at heads v) v) → lists_of heads' pool' long' ≡ lists_of heads pool long
 lists_kept heads heads' pool pool' long long' same kept =
-    let len = length_lists heads pool long in
-    let len' = length_lists heads' pool' long' in
-    ext_get_or [] (lists_of heads' pool' long') (lists_of heads pool long) (omega (arith, len, len', same))
-    (λ v lt.
-    let inside : v < length heads = omega (arith, lt, len', same) in
-    list_read heads' pool' long' v (omega (arith, lt, len')) ∙ kept v inside ∙ sym (list_read heads pool long v inside))
+    ext_get_or [] (lists_of heads' pool' long') (lists_of heads pool long) (grind (arith, length_lists)) (λ v lt. grind (arith, length_lists, list_read))
 
 -- one list has changed
 pub lists_set : (heads heads' : List Head) (pool pool' : List ℕ) (long long' : List (Vec ℕ Global)) (v : ℕ) (l : List ℕ) → length heads' ≡ length heads → v < length heads → row_of pool' long' (head_at heads' v) v ≡ l → ((w : ℕ) → w ≢ v → w < length heads → row_of pool' long' (head_at heads' w) w ≡ row_of pool long (head_at heads w) w) → lists_of heads' pool' long' ≡ set (lists_of heads pool long) v l
 lists_set heads heads' pool pool' long long' v l same inside here kept =
-    let len = length_lists heads pool long in
-    let len' = length_lists heads' pool' long' in
-    let old = lists_of heads pool long in
-    let len_set = length-set old v l in
-    ext_get_or [] (lists_of heads' pool' long') (set old v l) (omega (arith, len, len', len_set, same))
-    (λ w lt.
-    let there : w < length heads = omega (arith, lt, len', same) in
-    list_read heads' pool' long' w (omega (arith, lt, len'))
-    ∙ ⊎_elim
-    (λ (e : w ≡ v). ap (λ k. row_of pool' long' (head_at heads' k) k) e ∙ here ∙ sym (get_or-set_same old v l [] (omega (arith, len, inside))) ∙ ap (λ k. get_or (set old v l) k []) (sym e))
-    (λ (apart : w ≢ v). kept w apart there ∙ sym (list_read heads pool long w there) ∙ sym (get_or-set_other old v w l [] apart))
-    (cases_eq w v))
+    ext_get_or [] (lists_of heads' pool' long') (set (lists_of heads pool long) v l) (grind (arith, length-set, length_lists))
+    (λ w lt. grind (arith, cases_eq, get_or-set_other, get_or-set_same, length-set, length_lists, list_read))
 
 -- how many names a part of a pool has
 pub names_len : (pool : List ℕ) (start len : ℕ) → start + len ≤ length pool → length (names_at pool start len) ≡ len
@@ -78,14 +54,8 @@ name_read pool start len k lt = get_or-take len (drop start pool) k 0 lt ∙ get
 -- a part of a pool is as it was
 pub names_same : (pool pool' : List ℕ) (start len : ℕ) → length pool' ≡ length pool → ((k : ℕ) → start ≤ k → k < start + len → get_or pool' k 0 ≡ get_or pool k 0) → names_at pool' start len ≡ names_at pool start len
 names_same pool pool' start len as_long same =
-    let before = length-take len (drop start pool) in
-    let after = length-take len (drop start pool') in
-    let rest = length-drop start pool in
-    let rest' = length-drop start pool' in
-    ext_get_or 0 (names_at pool' start len) (names_at pool start len) (omega (arith, before, after, rest, rest', as_long))
-    (λ k lt.
-    let low : k < len = omega (arith, lt, after) in
-    name_read pool' start len k low ∙ same (start + k) (omega arith) (omega (arith, low)) ∙ sym (name_read pool start len k low))
+    ext_get_or 0 (names_at pool' start len) (names_at pool start len) (omega (arith, length-take {A = ℕ}, length-drop {A = ℕ}, as_long))
+    (λ k lt. let low : k < len = omega (arith, lt, length-take len (drop start pool')) in grind (arith, name_read))
 
 -- a pool after a write to `size` names from `from` on, which are `part` then
 pub record IsWritten (pool pool' part : List ℕ) (from size : ℕ) : Type 0 where
@@ -96,25 +66,7 @@ pub record IsWritten (pool pool' part : List ℕ) (from size : ℕ) : Type 0 whe
 
 pub is_written : (pool part : List ℕ) (from size : ℕ) → from + size ≤ length pool → length part ≡ size → IsWritten pool (put_mid from size pool part) part from size
 is_written pool part from size inside len =
-    let front = length-take-le from pool (omega (arith, inside)) in
-    let rest = length-drop from pool in
-    let behind = length-drop size (drop from pool) in
-    let all = length-append (take from pool) (part ++ drop size (drop from pool)) in
-    let later = length-append part (drop size (drop from pool)) in
-    record {
-      same = omega (arith, front, rest, behind, all, later, len, inside);
-      below = λ i lt. get_or_append_left (take from pool) (part ++ drop size (drop from pool)) 0 i (omega (arith, lt, front)) ∙ get_or-take from pool i 0 lt;
-      within = λ i lt.
-          get_or-append_right (take from pool) (part ++ drop size (drop from pool)) from (from + i) 0 front (omega arith)
-          ∙ ap (λ k. get_or (part ++ drop size (drop from pool)) k 0) (let e : from + i - from ≡ i = omega arith in e)
-          ∙ get_or_append_left part (drop size (drop from pool)) 0 i (omega (arith, lt, len));
-      past = λ i ge.
-          get_or-append_right (take from pool) (part ++ drop size (drop from pool)) from i 0 front (omega (arith, ge))
-          ∙ get_or-append_right part (drop size (drop from pool)) size (i - from) 0 len (omega (arith, ge))
-          ∙ get_or-drop size (drop from pool) (i - from - size) 0
-          ∙ get_or-drop from pool (size + (i - from - size)) 0
-          ∙ ap (λ k. get_or pool k 0) (let e : from + (size + (i - from - size)) ≡ i = omega (arith, ge) in e);
-    }
+    grind (arith, get_or-append_right, get_or-drop, get_or-take, get_or_append_left, length-append, length-drop, length-take)
 
 -- a name that has a list has a head
 pub has_head : (heads : List Head) (pool : List ℕ) (long : List (Vec ℕ Global)) (lists : List (List ℕ)) (v : ℕ) → lists_of heads pool long ≡ lists → v < length lists → v < length heads
@@ -171,11 +123,7 @@ long_room long h v many = ap (λ t. cond t (spare_at long v) (16 * h.units - h.l
 -- what lies apart from a part that was written to is as it was
 pub apart_same : (pool pool' part : List ℕ) (from size start len start' len' : ℕ) → IsWritten pool pool' part from size → start ≤ from → from + size ≤ start + len → AreDisjointParts start' len' start len → names_at pool' start' len' ≡ names_at pool start' len'
 apart_same pool pool' part from size start len start' len' new low high apart =
-    names_same pool pool' start' len' new.same (λ k ge lt.
-    ⊎_elim
-    (λ (before : start' + len' ≤ start). new.below k (omega (arith, before, lt, low)))
-    (λ (after : start + len ≤ start'). new.past k (omega (arith, after, ge, high)))
-    apart)
+    names_same pool pool' start' len' new.same (λ k ge lt. grind (arith, new.below k, new.past k))
 
 -- a name was put into a row
 pub put_in_row : (pool pool' part : List ℕ) (start len place name size : ℕ) → place ≤ len → start + len < length pool → place + size ≡ len + 1 → IsWritten pool pool' part (start + place) size → get_or part 0 0 ≡ name → ((i : ℕ) → i + 1 < size → get_or part (i + 1) 0 ≡ get_or pool (start + place + i) 0) → names_at pool' start (len + 1) ≡ insert (names_at pool start len) place name
@@ -215,23 +163,7 @@ put_in_row pool pool' part start len place name size inside room all new first l
 -- a name was taken out of a row
 pub take_from_row : (pool pool' part : List ℕ) (start len place size : ℕ) → place < len → start + len ≤ length pool → place + size ≡ len → IsWritten pool pool' part (start + place) size → ((i : ℕ) → i + 1 < size → get_or part i 0 ≡ get_or pool (start + place + (i + 1)) 0) → names_at pool' start (len - 1) ≡ remove (names_at pool start len) place
 take_from_row pool pool' part start len place size inside room all new later =
-    let row = names_at pool start len in
     let old_len = names_len pool start len room in
     let new_len = names_len pool' start (len - 1) (let same = new.same in omega (arith, room, same)) in
-    let lt_row : place < length row = omega (arith, old_len, inside) in
-    let less = length-remove row place lt_row in
-    ext_get_or 0 (names_at pool' start (len - 1)) (remove row place) (omega (arith, old_len, new_len, less))
-    (λ k lt.
-    let low : k < len - 1 = omega (arith, lt, new_len) in
-    name_read pool' start (len - 1) k low
-    ∙ ⊎_elim
-    (λ (below : k < place).
-    new.below (start + k) (omega (arith, below)) ∙ sym (name_read pool start len k (omega (arith, below, inside))) ∙ sym (get_or-remove_below row place 0 k below lt_row))
-    (λ (ge : place ≤ k).
-    ap (λ i. get_or pool' i 0) (let e : start + k ≡ start + place + (k - place) = omega (arith, ge) in e)
-    ∙ new.within (k - place) (omega (arith, ge, low, all))
-    ∙ later (k - place) (omega (arith, ge, low, all))
-    ∙ ap (λ i. get_or pool i 0) (let e : start + place + (k - place + 1) ≡ start + (k + 1) = omega (arith, ge) in e)
-    ∙ sym (name_read pool start len (k + 1) (omega (arith, low)))
-    ∙ sym (get_or-remove_above row place 0 k ge lt_row))
-    (cases_lt k place))
+    ext_get_or 0 (names_at pool' start (len - 1)) (remove (names_at pool start len) place) (grind (arith, length-remove))
+    (λ k lt. grind (arith, cases_lt, get_or-remove_above, get_or-remove_below, later (k - place), name_read, new.below (start + k), new.within (k - place)))

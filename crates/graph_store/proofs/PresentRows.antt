@@ -1,5 +1,5 @@
 -- The rows of the first names.
-use Rattle.graph_store.proofs.Prelude.{suc, ◌≡◌, ℕ, ◌+◌, ◌≤◌, true, false, ◌&&◌, length, replicate, leb, set, get_or, sym, ap, ap₂, ◌∙◌, arith, ⊎_elim, range_with_len, cases_eq, le-leb, nat_tests, ext_get_or, length-set, length-replicate, get_or-replicate, get_or-set_same, get_or-set_other, filter_agree, length-map-range_with_len, get_or-map-range_with_len, Network, first_names, names, present, is_in, members}
+use Rattle.graph_store.proofs.Prelude.{suc, ◌≡◌, ℕ, ◌+◌, ◌≤◌, true, false, ◌&&◌, length, replicate, leb, set, get_or, sym, ap, ◌∙◌, arith, range_with_len, cases_eq, nat_tests, ext_get_or, length-set, length-replicate, get_or-replicate, get_or-set_same, get_or-set_other, filter_agree, length-map-range_with_len, get_or-map-range_with_len, Network, first_names, names, present, is_in, members}
 use Rattle.std.proofs.Common.{filter}
 use Rattle.graph_store.proofs.Store.{on_roll}
 
@@ -13,32 +13,14 @@ first_names_at size count v le = get_or-map-range_with_len (λ v. leb 1 v && leb
 pub first_names_none : (size : ℕ) → replicate (size + 1) false ≡ first_names size 0
 first_names_none size =
     ext_get_or false _ _ (length-replicate (size + 1) false ∙ sym (first_names_len size 0))
-    (λ i inside. let l = length-replicate (size + 1) false in
-    get_or-replicate (size + 1) i false false (omega (arith, l, inside)) ∙ sym (first_names_at size 0 i (omega (arith, l, inside)) ∙ nobody i))
-  where
-    nobody : (i : ℕ) → (leb 1 i && leb i 0) ≡ false
-    nobody i = grind (arith, nat_tests)
+    (λ i inside. grind (arith, first_names_at, get_or-replicate, length-replicate, nat_tests))
 
 -- one more
 pub first_names_more : (size count v : ℕ) → 1 ≤ v → v ≤ size → v ≡ count + 1 → set (first_names size count) v true ≡ first_names size v
 first_names_more size count v low high next =
     let l = first_names_len size count in
     ext_get_or false _ _ (length-set (first_names size count) v true ∙ l ∙ sym (first_names_len size v))
-    (λ i inside.
-    let m = length-set (first_names size count) v true in
-    let within : i ≤ size = omega (arith, l, m, inside) in
-    ⊎_elim
-    (λ (e : i ≡ v).
-    ap (λ x. get_or (set (first_names size count) v true) x false) e ∙ get_or-set_same (first_names size count) v true false (omega (arith, l, high))
-    ∙ sym (first_names_at size v i within ∙ ap₂ (λ s t. s && t) (le-leb 1 i (omega (arith, e, low))) (le-leb i v (omega (arith, e)))))
-    (λ apart.
-    get_or-set_other (first_names size count) v i true false apart ∙ first_names_at size count i within
-    ∙ ap (λ t. leb 1 i && t) (same i apart)
-    ∙ sym (first_names_at size v i within))
-    (cases_eq i v))
-  where
-    same : (i : ℕ) → (i ≡ v → ⊥) → leb i count ≡ leb i v
-    same i apart = grind (arith, nat_tests)
+    (λ i inside. grind (arith, cases_eq, first_names_at, get_or-set_other, get_or-set_same, length-set, nat_tests))
 
 -- the members of the roll are the names
 pub members_names : (net : Network) → length net.here ≡ net.size + 1 → get_or net.here 0 false ≡ false → members net.here ≡ names net

@@ -1,5 +1,5 @@
 -- What `map_err` passes on, and the order of a rising list's places.
-use Rattle.graph_store.proofs.Prelude.{◌≡◌, ℕ, ◌-◌, ◌<◌, ◌≤◌, List, length, get_or, Result, Ok, Err, IfOk, OnOk, MatchResult, ap, sym, subst, arith, ⊎_elim, IsErrAnd, IsStrictlyIncreasing, IsGapFor, cases_lt, AllPairs-from_increasing}
+use Rattle.graph_store.proofs.Prelude.{◌≡◌, ℕ, ◌-◌, ◌<◌, ◌≤◌, List, length, get_or, Result, Ok, Err, IfOk, OnOk, MatchResult, sym, subst, arith, IsErrAnd, IsStrictlyIncreasing, IsGapFor, cases_lt, AllPairs-from_increasing}
 
 -- what holds of an `Ok` holds of the value that `map_err` passed on
 pub from_map_err : {T E F : Type 0} (P : T → Type 0) (r : Result T E) (v : Result T F) (x : T) (Q : E → F → Type 0) → v ≡ Ok x → MatchResult r (λ y. v ≡ Ok y) (λ e. IsErrAnd v (Q e)) → IfOk r P → P x
@@ -19,16 +19,8 @@ on_ok_weaker P Q (Err d) step h = tt
 
 -- a later place of a rising list has no lower name
 pub never_falls : (xs : List ℕ) → IsStrictlyIncreasing xs → (i j : ℕ) → i ≤ j → j < length xs → get_or xs i 0 ≤ get_or xs j 0
-never_falls xs up i j le inside =
-    ⊎_elim
-    (λ (lt : i < j). let below = AllPairs-from_increasing xs up i j 0 lt inside in omega arith)
-    (λ (ge : j ≤ i). let e : i ≡ j = omega arith in omega (arith, ap (λ k. get_or xs k 0) e))
-    (cases_lt i j)
+never_falls xs up i j le inside = grind (arith, AllPairs-from_increasing xs up i j 0, cases_lt)
 
 -- a name belongs at a place of an ascending list if the name before it is lower and the name at it is higher
 pub gap_here : (row : List ℕ) (name place : ℕ) → IsStrictlyIncreasing row → place ≤ length row → (0 < place → get_or row (place - 1) 0 < name) → (place < length row → name < get_or row place 0) → IsGapFor row name place
-gap_here row name place up inside low high = record {
-  inside = inside;
-  below = λ k lt. let l = low (omega (arith, lt)) in let le = never_falls row up k (place - 1) (omega (arith, lt)) (omega (arith, lt, inside)) in omega (arith, l, le);
-  above = λ k ge lt. let h = high (omega (arith, ge, lt)) in let le = never_falls row up place k ge lt in omega (arith, h, le);
-}
+gap_here row name place up inside low high = grind (arith, never_falls row up)

@@ -1,5 +1,5 @@
 -- What a store's rows say of its network, and what one edge more or less does to both.
-use Rattle.graph_store.proofs.Prelude.{◌≡◌, ℕ, ◌+◌, ◌<◌, ◌≤◌, min, max, Bool, true, false, cond, ◌&&◌, List, [], ◌∷◌, length, get_or, refl, ltb, leb, replicate, sym, ap, subst, ◌∙◌, arith, ⊎_elim, All, IsTrue, nat_eq_equiv, range_with_len, IsStrictlyIncreasing, and_left, cases_lt, true≢false, lt-ltb, le-ltb, le-leb, lt-leb, get_or-replicate, get_or_past, length-replicate, filter_agree, length-map-range_with_len, get_or-map-range_with_len, All-from_any, Network, PairSet, linked, present, neighbours, names, first_names, edgeless_with, edge_count, contains-empty, present_range, has, row_at, edges_of, network_of, IsRows, IsStore, and-false}
+use Rattle.graph_store.proofs.Prelude.{◌≡◌, ℕ, ◌+◌, ◌<◌, ◌≤◌, Bool, true, false, cond, ◌&&◌, List, [], ◌∷◌, length, get_or, refl, ltb, leb, replicate, sym, ap, subst, ◌∙◌, arith, All, IsTrue, nat_eq_equiv, range_with_len, IsStrictlyIncreasing, cases_lt, true≢false, lt-ltb, get_or-replicate, get_or_past, length-replicate, filter_agree, length-map-range_with_len, get_or-map-range_with_len, All-from_any, Network, PairSet, linked, present, neighbours, names, first_names, edgeless_with, edge_count, contains-empty, present_range, has, row_at, edges_of, network_of, IsRows, IsStore, and-false, nat_tests}
 use Rattle.std.proofs.Common.{filter}
 use Rattle.std.specs.FinMap as map
 use Rattle.graph_store.proofs.PairOrder.{count-empty, same_pairs}
@@ -8,14 +8,7 @@ use Rattle.graph_store.proofs.AscendingLists.{part_of_names}
 
 -- the roll says which names are present
 pub on_roll : (net : Network) (v : ℕ) → length net.here ≡ net.size + 1 → get_or net.here 0 false ≡ false → get_or net.here v false ≡ present net v
-on_roll net v len nobody =
-    ⊎_elim
-    (λ (lt : v < 1). let e : v ≡ 0 = omega arith in ap (λ x. get_or net.here x false) e ∙ nobody ∙ sym (and_left (leb 1 v) _ (lt-leb 1 v lt)))
-    (λ (ge : 1 ≤ v). ⊎_elim
-    (λ (past : net.size < v). get_or_past net.here v false (omega arith) ∙ sym (ap (λ t. leb 1 v && t) (and_left (leb v net.size) _ (lt-leb v net.size past)) ∙ and-false (leb 1 v)))
-    (λ (le : v ≤ net.size). sym (λ i. le-leb 1 v ge i && (le-leb v net.size le i && get_or net.here v false)))
-    (cases_lt net.size v))
-    (cases_lt v 1)
+on_roll net v len nobody = grind (arith, cases_lt, get_or_past, nat_tests)
 
 -- two tests one after the other
 filter_both : (p q : ℕ → Bool) (xs : List ℕ) → filter p (filter q xs) ≡ filter (λ x. q x && p x) xs
@@ -36,18 +29,7 @@ ordered rows a b x y p q lt =
 
 -- two names are linked if one is in the other's row
 pub linked_row : (size : ℕ) (roll : List Bool) (rows : List (List ℕ)) (a b : ℕ) → IsRows size roll rows → linked (network_of size roll rows) a b ≡ has (row_at rows a) b
-linked_row size roll rows a b good =
-    ⊎_elim
-    (λ (lt : a < b). ordered rows a b (min a b) (max a b) (omega arith) (omega arith) lt)
-    (λ (le : b ≤ a). ⊎_elim
-    (λ (lt : b < a). ordered rows b a (min a b) (max a b) (omega arith) (omega arith) lt ∙ good.mutual_in b a)
-    (λ (ge : a ≤ b).
-    let e : b ≡ a = omega arith in
-    has-edges_of rows (min a b) (max a b)
-    ∙ and_left (ltb (min a b) (max a b)) _ (le-ltb (min a b) (max a b) (omega arith))
-    ∙ sym (ap (has (row_at rows a)) e ∙ good.apart a))
-    (cases_lt b a))
-    (cases_lt a b)
+linked_row size roll rows a b good = grind (arith, cases_lt, has-edges_of, nat_tests)
 
 -- the same of the network that the rows are seen as
 pub linked_by : (size : ℕ) (roll : List Bool) (rows : List (List ℕ)) (net : Network) (a b : ℕ) → network_of size roll rows ≡ net → IsRows size roll rows → has (row_at rows a) b ≡ linked net a b
@@ -83,11 +65,7 @@ all_present size roll rows v good =
 
 -- a row of empty rows is empty
 empty_row : (n v : ℕ) → row_at (replicate n []) v ≡ []
-empty_row n v =
-    ⊎_elim
-    (λ (lt : v < n). get_or-replicate n v [] [] lt)
-    (λ (le : n ≤ v). get_or_past (replicate n []) v [] (let none : List ℕ = [] in let len = length-replicate n none in omega arith))
-    (cases_lt v n)
+empty_row n v = grind (arith, cases_lt, get_or-replicate, get_or_past, length-replicate)
 
 -- empty rows are the network with no edge
 pub empty_network : (size count : ℕ) → network_of size (first_names size count) (replicate (size + 1) []) ≡ edgeless_with size count

@@ -1,5 +1,5 @@
 -- What one edge more or less does to a store's rows and to its network.
-use Rattle.graph_store.proofs.Prelude.{◌≡◌, ◌≢◌, ℕ, ◌+◌, ◌-◌, ◌<◌, ◌≤◌, min, max, Bool, true, false, not, cond, ◌&&◌, ◌||◌, List, [], length, eqb, ltb, set, sym, ap, subst, ◌∙◌, arith, ⊎_elim, inl, inr, ◌⊎◌, insert, remove, IsStrictlyIncreasing, ne_eqb, eqb-true, and_left, and_parts, or_from, or_cases, cases_eq, cases_lt, cases_Bool, ltb-true, ltb-false, nat_tests, get_or-set_same, get_or-set_other, length-set, Network, PairSet, edge, linked, present, with_edge, without_edge, has, row_at, edges_of, network_of, put_both, take_both, IsRows, IsStore, IsPlaceOf, IsGapFor, present_range}
+use Rattle.graph_store.proofs.Prelude.{◌≡◌, ◌≢◌, ℕ, ◌+◌, ◌-◌, ◌<◌, ◌≤◌, Bool, true, false, not, cond, ◌&&◌, ◌||◌, List, length, eqb, ltb, set, sym, ap, subst, ◌∙◌, arith, ◌⊎◌, insert, remove, IsStrictlyIncreasing, cases_eq, cases_Bool, nat_tests, get_or-set_same, get_or-set_other, length-set, Network, PairSet, edge, linked, present, with_edge, without_edge, has, row_at, edges_of, network_of, put_both, take_both, IsRows, IsStore, IsPlaceOf, IsGapFor, present_range}
 use Rattle.std.specs.FinMap as map
 use Rattle.graph_store.proofs.PairOrder.{same_pair, has-insert as has_pair-insert, has-remove as has_pair-remove, count-insert, count-remove, same_pairs}
 use Rattle.graph_store.proofs.Pairs.{has-edges_of}
@@ -45,8 +45,7 @@ row_off row w i up place = record {
 
 -- at a row that is neither end's no edge joins
 joins_neither : (a b x y : ℕ) → x ≢ a → x ≢ b → joins a b x y ≡ false
-joins_neither a b x y not_a not_b =
-    or_from _ _ (and_left (eqb x a) (eqb y b) (ne_eqb x a not_a)) (and_left (eqb x b) (eqb y a) (ne_eqb x b not_b))
+joins_neither a b x y not_a not_b = grind (arith, nat_tests)
 
 -- at the first end's row the other name is the second end
 joins_first : (a b x y : ℕ) → a ≢ b → x ≡ a → joins a b x y ≡ eqb y b
@@ -59,32 +58,7 @@ joins_second a b x y apart e = grind (arith, nat_tests)
 -- both ends' rows switched
 both_rows : (a b : ℕ) (on : Bool) (rows : List (List ℕ)) (ra rb : List ℕ) → a ≢ b → a < length rows → b < length rows → ((x : ℕ) → IsStrictlyIncreasing (row_at rows x)) → RowSwitched (row_at rows a) ra b on → RowSwitched (row_at rows b) rb a on → Switched a b on rows (set (set rows a ra) b rb)
 both_rows a b on rows ra rb apart fits_a fits_b up first second =
-    let len : length (set rows a ra) ≡ length rows = length-set rows a ra in
-    let at_b : row_at (set (set rows a ra) b rb) b ≡ rb = get_or-set_same (set rows a ra) b rb [] (omega arith) in
-    let at_a : row_at (set (set rows a ra) b rb) a ≡ ra = get_or-set_other (set rows a ra) b a rb [] apart ∙ get_or-set_same rows a ra [] fits_a in
-    let others : (x : ℕ) → x ≢ a → x ≢ b → row_at (set (set rows a ra) b rb) x ≡ row_at rows x = λ x not_a not_b. get_or-set_other (set rows a ra) b x rb [] not_b ∙ get_or-set_other rows a x ra [] not_a in
-    record {
-      places = length-set (set rows a ra) b rb ∙ len;
-      held = λ x y. ⊎_elim
-          (λ (e : x ≡ a).
-          ap (λ z. has (row_at (set (set rows a ra) b rb) z) y) e ∙ ap (λ row. has row y) at_a ∙ first.held y
-          ∙ (λ i. cond (sym (joins_first a b x y apart e) i) on (has (row_at rows (sym e i)) y)))
-          (λ (not_a : x ≢ a). ⊎_elim
-          (λ (e : x ≡ b).
-          ap (λ z. has (row_at (set (set rows a ra) b rb) z) y) e ∙ ap (λ row. has row y) at_b ∙ second.held y
-          ∙ (λ i. cond (sym (joins_second a b x y apart e) i) on (has (row_at rows (sym e i)) y)))
-          (λ (not_b : x ≢ b).
-          ap (λ row. has row y) (others x not_a not_b) ∙ sym (ap (λ t. cond t on (has (row_at rows x) y)) (joins_neither a b x y not_a not_b)))
-          (cases_eq x b))
-          (cases_eq x a);
-      rising = λ x. ⊎_elim
-          (λ (e : x ≡ a). subst IsStrictlyIncreasing (sym (ap (row_at (set (set rows a ra) b rb)) e ∙ at_a)) first.rising)
-          (λ (not_a : x ≢ a). ⊎_elim
-          (λ (e : x ≡ b). subst IsStrictlyIncreasing (sym (ap (row_at (set (set rows a ra) b rb)) e ∙ at_b)) second.rising)
-          (λ (not_b : x ≢ b). subst IsStrictlyIncreasing (sym (others x not_a not_b)) (up x))
-          (cases_eq x b))
-          (cases_eq x a);
-    }
+    grind (arith, cases_eq, get_or-set_other, get_or-set_same, joins_first, joins_neither, joins_second, length-set)
 
 -- an edge joins its ends either way round
 joins_back : (a b x y : ℕ) → joins a b x y ≡ joins a b y x
@@ -96,59 +70,19 @@ joins_apart a b x apart = grind (arith, nat_tests)
 
 -- what an edge joins is one of its ends
 joins_end : (a b x y : ℕ) → joins a b x y ≡ true → (y ≡ a) ⊎ (y ≡ b)
-joins_end a b x y h =
-    ⊎_elim
-    (λ first. inr (eqb-true y b (and_parts (eqb x a) (eqb y b) first).1))
-    (λ second. inl (eqb-true y a (and_parts (eqb x b) (eqb y a) second).1))
-    (or_cases (eqb x a && eqb y b) (eqb x b && eqb y a) h)
+joins_end a b x y h = grind (arith, nat_tests)
 
 -- switched rows are rows
 switched_rows : (size : ℕ) (roll : List Bool) (a b : ℕ) (on : Bool) (rows rows' : List (List ℕ)) → IsRows size roll rows → a ≢ b → present (network_of size roll rows) a ≡ true → present (network_of size roll rows) b ≡ true → Switched a b on rows rows' → IsRows size roll rows'
-switched_rows size roll a b on rows rows' good apart in_a in_b new = record {
-  places = new.places ∙ good.places;
-  roll_len = good.roll_len;
-  nobody = good.nobody;
-  within = λ v w h. ⊎_elim
-      (λ (j : joins a b v w ≡ true). ⊎_elim
-      (λ (e : w ≡ a). ap (present (network_of size roll rows)) e ∙ in_a)
-      (λ (e : w ≡ b). ap (present (network_of size roll rows)) e ∙ in_b)
-      (joins_end a b v w j))
-      (λ (j : joins a b v w ≡ false). good.within v w (sym (new.held v w ∙ ap (λ t. cond t on (has (row_at rows v) w)) j) ∙ h))
-      (cases_Bool (joins a b v w));
-  mutual_in = λ v w. new.held v w ∙ (λ i. cond (joins_back a b v w i) on (good.mutual_in v w i)) ∙ sym (new.held w v);
-  apart = λ v. new.held v v ∙ ap (λ t. cond t on (has (row_at rows v) v)) (joins_apart a b v apart) ∙ good.apart v;
-  rising = new.rising;
-}
-
--- a pair that ascends, if the first end is the lower one
-first_way : (a b x y : ℕ) → x < y → a < b → joins a b x y ≡ same_pair (x, y) (a, b)
-first_way a b x y lt below = grind (arith, nat_tests)
-
--- and if it is the higher one
-second_way : (a b x y : ℕ) → x < y → b < a → joins a b x y ≡ same_pair (x, y) (b, a)
-second_way a b x y lt below = grind (arith, nat_tests)
-
--- a pair that rises is no pair that does not
-never_falls : (x y low high : ℕ) → y ≤ x → low < high → same_pair (x, y) (low, high) ≡ false
-never_falls x y low high ge up = grind (arith, nat_tests)
+switched_rows size roll a b on rows rows' good apart in_a in_b new = grind (arith, cases_Bool, joins_apart, joins_back, joins_end)
 
 -- the pair of an edge, if its lower end is first
 joins_pair : (a b x y : ℕ) → a ≢ b → ltb x y ≡ true → joins a b x y ≡ same_pair (x, y) (edge a b)
-joins_pair a b x y apart lt =
-    ⊎_elim
-    (λ (below : a < b).
-    let low : a ≡ min a b = omega arith in
-    let high : b ≡ max a b = omega arith in
-    first_way a b x y (ltb-true x y lt) below ∙ (λ i. same_pair (x, y) (low i, high i)))
-    (λ (above : b ≤ a).
-    let low : b ≡ min a b = omega arith in
-    let high : a ≡ max a b = omega arith in
-    second_way a b x y (ltb-true x y lt) (omega arith) ∙ (λ i. same_pair (x, y) (low i, high i)))
-    (cases_lt a b)
+joins_pair a b x y apart lt = grind (arith, nat_tests)
 
 -- and no pair whose lower end is second
 no_pair : (a b x y : ℕ) → ltb x y ≡ false → a ≢ b → same_pair (x, y) (edge a b) ≡ false
-no_pair a b x y ge apart = never_falls x y (min a b) (max a b) (ltb-false x y ge) (omega arith)
+no_pair a b x y ge apart = grind (arith, nat_tests)
 
 -- a pair that is switched, in the set of the pairs that rise
 switched_pair : (on t s j h : Bool) → (t ≡ true → j ≡ s) → (t ≡ false → s ≡ false) → (t && cond j on h) ≡ cond s on (t && h)

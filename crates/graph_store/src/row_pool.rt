@@ -82,6 +82,7 @@ impl Rows {
 
     /// The neighbours of a name. Looks at eight bytes, then at the names.
     #[inline(always)]
+    #[tactic(auto, using(crate::proofs::PooledRows::length_lists))]
     pub fn row(&self, node: Node) -> &[Node]
         requires { node < length self.now.lists }
         ensures { result.now ≡ row_at self.now.lists node }
@@ -94,6 +95,7 @@ impl Rows {
     }
 
     #[inline(always)]
+    #[tactic(auto, using(crate::proofs::PooledRows::length_lists))]
     fn make_room(&mut self, node: Node) -> Result<(), Want>
         requires { node < length self.old.lists }
         ensures lists { self.new.lists ≡ self.old.lists }
@@ -109,6 +111,7 @@ impl Rows {
 
     #[cold]
     #[inline(never)]
+    #[tactic(auto, using(crate::proofs::PooledRows::length_lists))]
     fn grow(&mut self, node: Node) -> Result<(), Want>
         requires { node < length self.old.lists }
         ensures lists { self.new.lists ≡ self.old.lists }
@@ -149,6 +152,7 @@ impl Rows {
     }
 
     #[inline(always)]
+    #[tactic(auto, using(crate::proofs::PooledRows::length_lists))]
     fn put_in(&mut self, node: Node, place: usize, name: Node)
         requires known { node < length self.old.lists }
         requires inside { place ≤ length (row_at self.old.lists node) }
@@ -176,6 +180,7 @@ impl Rows {
     }
 
     #[inline(always)]
+    #[tactic(auto, using(crate::proofs::PooledRows::length_lists))]
     fn take_out(&mut self, node: Node, place: usize)
         requires known { node < length self.old.lists }
         requires inside { place < length (row_at self.old.lists node) }
@@ -235,6 +240,7 @@ impl Rows {
         self.take_out(b, place_in_b);
     }
 
+    #[tactic(auto, using(crate::proofs::PooledRows::length_lists))]
     fn count(&self) -> usize
         ensures { result ≡ length self.now.lists }
     {

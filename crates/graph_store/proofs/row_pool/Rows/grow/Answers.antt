@@ -2,15 +2,9 @@ use Rattle.graph_store.proofs.Prelude.{◌≡◌, ℕ, ◌+◌, ◌*◌, ◌<◌
 use Rattle.graph_store.specs.RowPools.{lists_of, rooms_of}
 use Rattle.graph_store.proofs.Contents.{contents_kept}
 use Rattle.graph_store.proofs.Results.{on_ok_weaker}
-use Rattle.graph_store.proofs.PooledRows.{has_head, head_read, head_owned, head_inside}
+use Rattle.graph_store.proofs.PooledRows.{head_read, head_owned, head_inside}
 use Rattle.graph_store.proofs.PoolChanges.{long_same, long_room_made, long_room_kept, head_fits, longer_same, moved_kept, moved_same, moved_room, rooms_with, out_same, out_room, others_same, others_room}
 use Rattle.graph_store.proofs.row_pool.Rows.grow.Goals as goal
-
-pub index-head-requires : goal.index-head-requires
-index-head-requires c =
-    let s = c.self.inside in
-    let here = has_head s.heads.items s.pool.items s.long.items c.args.self.now.lists c.args.node (ap (λ (r : RowLists). r.lists) c.self.view_is) c.requires in
-    omega (arith, here, c.place-place.ensures.same)
 
 pub index_mut-requires : goal.index_mut-requires
 index_mut-requires c =
@@ -60,12 +54,6 @@ pub returns-in_err-add_block-clause-lists : goal.returns-in_err-add_block-clause
 returns-in_err-add_block-clause-lists c =
     let s = c.self.inside in
     longer_same s.heads.items s.pool.items c.add_block.new.pool.items s.long.items c.self.invariant c.add_block.ensures.kept ∙ ap (λ (r : RowLists). r.lists) c.self.view_is
-
-pub index_mut-requires-then-end-le-LAST_START : goal.index_mut-requires-then-end-le-LAST_START
-index_mut-requires-then-end-le-LAST_START c =
-    let s = c.self.inside in
-    let here = has_head s.heads.items s.pool.items s.long.items c.args.self.now.lists c.args.node (ap (λ (r : RowLists). r.lists) c.self.view_is) c.requires in
-    omega (arith, here, c.place-place.ensures.same)
 
 pub invariant_of-self-then-end-le-LAST_START : goal.invariant_of-self-then-end-le-LAST_START
 invariant_of-self-then-end-le-LAST_START c =
@@ -118,12 +106,6 @@ returns-in_err-add_long-clause-others c v some =
     let seen = ap (λ (r : RowLists). r.lists) c.self.view_is in
     let head = head_read s.heads.items s.pool.items s.long.items c.args.self.now.lists c.index-head.result.now c.place-place.result c.args.node seen c.requires c.place-place.ensures.same c.index-head.ensures in
     others_room s.heads.items s.pool.items s.long.items c.add_long.new.long.items c.args.node c.index-head.result.now c.self.invariant head c.if-head-gt-MOST_NAMES.false (λ w apart inside. (c.add_long.ensures.others w (λ e. apart (e ∙ c.place-place.ensures.same)) inside).1) v (subst (λ l. 0 < get_or l v 0) (sym (ap (λ (r : RowLists). r.room) c.self.view_is)) some)
-
-pub index_mut-requires-2 : goal.index_mut-requires-2
-index_mut-requires-2 c =
-    let s = c.self.inside in
-    let here = has_head s.heads.items s.pool.items s.long.items c.args.self.now.lists c.args.node (ap (λ (r : RowLists). r.lists) c.self.view_is) c.requires in
-    omega (arith, here, c.place-place.ensures.same)
 
 pub returns : goal.returns
 returns c =

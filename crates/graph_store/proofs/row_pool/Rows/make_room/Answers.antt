@@ -1,13 +1,7 @@
 use Rattle.graph_store.proofs.Prelude.{◌≤◌, get_or, arith, ap, RowLists}
-use Rattle.graph_store.proofs.PooledRows.{has_head, head_read}
+use Rattle.graph_store.proofs.PooledRows.{head_read}
 use Rattle.graph_store.proofs.PoolChanges.{room_short, head_units}
 use Rattle.graph_store.proofs.row_pool.Rows.make_room.Goals as goal
-
-pub index-head-requires : goal.index-head-requires
-index-head-requires c =
-    let s = c.self.inside in
-    let here = has_head s.heads.items s.pool.items s.long.items c.args.self.now.lists c.args.node (ap (λ (r : RowLists). r.lists) c.self.view_is) c.requires in
-    omega (arith, here, c.place.ensures.same)
 
 pub overflow_mul-from : goal.overflow_mul-from
 overflow_mul-from c =

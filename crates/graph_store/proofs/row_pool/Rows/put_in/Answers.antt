@@ -1,14 +1,8 @@
 use Rattle.graph_store.proofs.Prelude.{◌≡◌, ℕ, ◌+◌, ◌<◌, length, get_or, arith, ap, sym, subst, ◌∙◌, Vec, Global, with_items, with_items_is, RowLists, AreDisjointParts, IsPool, names_at, row_at, insert, set}
 use Rattle.graph_store.specs.RowPools.{lists_of, rooms_of}
-use Rattle.graph_store.proofs.PooledRows.{has_head, head_read, head_owned}
+use Rattle.graph_store.proofs.PooledRows.{head_read, head_owned}
 use Rattle.graph_store.proofs.PoolChanges.{long_changed, long_rooms_elsewhere, long_read, long_spare, block_changed, block_kept, block_inside, has_room, short_len, names_seen, head_rooms_elsewhere}
 use Rattle.graph_store.proofs.row_pool.Rows.put_in.Goals as goal
-
-pub index-head-requires : goal.index-head-requires
-index-head-requires c =
-    let s = c.self.inside in
-    let here = has_head s.heads.items s.pool.items s.long.items c.args.self.now.lists c.args.node (ap (λ (r : RowLists). r.lists) c.self.view_is) c.requires.known in
-    omega (arith, here, c.place.ensures.same)
 
 pub index_mut-requires : goal.index_mut-requires
 index_mut-requires c =
@@ -58,12 +52,6 @@ put_name-requires c =
       inside = omega (arith, len, inside, c.from.ensures);
       room = omega (arith, room.1, block, c.from.ensures, ap length c.deref_mut.ensures.value);
     }
-
-pub index_mut-requires-2 : goal.index_mut-requires-2
-index_mut-requires-2 c =
-    let s = c.self.inside in
-    let here = has_head s.heads.items s.pool.items s.long.items c.args.self.now.lists c.args.node (ap (λ (r : RowLists). r.lists) c.self.view_is) c.requires.known in
-    omega (arith, here, c.place-2.ensures.same)
 
 -- the pool has the names that were written
 now_is : (c : goal.After-self-3-1) → (with_items c.self.inside.pool c.put_name.new.pool).items ≡ c.put_name.new.pool

@@ -1,13 +1,7 @@
 use Rattle.graph_store.proofs.Prelude.{length, arith, ap, sym, refl, ◌∙◌, RowLists, names_at}
 use Rattle.graph_store.proofs.Contents.{row_read}
-use Rattle.graph_store.proofs.PooledRows.{has_head, short_is, long_is, head_read, head_owned, head_inside, row_seen}
+use Rattle.graph_store.proofs.PooledRows.{short_is, long_is, head_read, head_owned, head_inside, row_seen}
 use Rattle.graph_store.proofs.row_pool.Rows.row.Goals as goal
-
-pub index-head-requires : goal.index-head-requires
-index-head-requires c =
-    let s = c.self.inside in
-    let here = has_head s.heads.items s.pool.items s.long.items c.args.self.now.lists c.args.node (ap (λ (r : RowLists). r.lists) c.self.view_is) c.requires in
-    omega (arith, here, c.place.ensures.same)
 
 pub index-requires : goal.index-requires
 index-requires c =

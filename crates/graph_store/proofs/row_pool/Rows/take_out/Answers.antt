@@ -1,14 +1,8 @@
 use Rattle.graph_store.proofs.Prelude.{◌≡◌, ℕ, ◌-◌, length, get_or, arith, ap, sym, subst, ◌∙◌, Vec, Global, with_items, with_items_is, RowLists, AreDisjointParts, IsPool, names_at, row_at, remove, set}
 use Rattle.graph_store.specs.RowPools.{lists_of}
-use Rattle.graph_store.proofs.PooledRows.{has_head, head_read, head_owned, head_inside}
+use Rattle.graph_store.proofs.PooledRows.{head_read, head_owned, head_inside}
 use Rattle.graph_store.proofs.PoolChanges.{long_changed, long_read, block_changed, block_kept, short_len, names_seen, head_fits}
 use Rattle.graph_store.proofs.row_pool.Rows.take_out.Goals as goal
-
-pub index-head-requires : goal.index-head-requires
-index-head-requires c =
-    let s = c.self.inside in
-    let here = has_head s.heads.items s.pool.items s.long.items c.args.self.now.lists c.args.node (ap (λ (r : RowLists). r.lists) c.self.view_is) c.requires.known in
-    omega (arith, here, c.place.ensures.same)
 
 pub index_mut-requires : goal.index_mut-requires
 index_mut-requires c =
@@ -59,12 +53,6 @@ overflow_sub-head c =
     let len = short_len s.heads.items s.pool.items s.long.items c.args.self.now.lists c.args.node c.index-head.result.now c.self.invariant seen head c.if-head-gt-MOST_NAMES.false in
     let inside = c.requires.inside in
     omega (arith, len, inside)
-
-pub index_mut-requires-2 : goal.index_mut-requires-2
-index_mut-requires-2 c =
-    let s = c.self.inside in
-    let here = has_head s.heads.items s.pool.items s.long.items c.args.self.now.lists c.args.node (ap (λ (r : RowLists). r.lists) c.self.view_is) c.requires.known in
-    omega (arith, here, c.place-2.ensures.same)
 
 -- the pool has the names that were written
 now_is : (c : goal.After-self-3-1) → (with_items c.self.inside.pool c.take_name.new.pool).items ≡ c.take_name.new.pool
