@@ -1,6 +1,5 @@
 -- What a change leaves as it is.
-use Rattle.net_state.proofs.Prelude.{◌≡◌, ◌≢◌, ℕ, ◌+◌, ◌<◌, true, false, length, Some, IsTrue, refl, sym, ap, subst, ◌∙◌, arith, true≢false, linked, present, State, IsState, is_at, linked_back, linked_present, present_range, pointer_linked, if_some_from, is_at_from_some, pointer-with_pointer_same, IsChange, changed_state, StateView, affected_by, IsUnaffected, AreNamesBelow, Change, Pointed, Flagged, Linked, Unlinked, Joined, Removed}
-use Rattle.net_state.proofs.Edges.{new_edge}
+use Rattle.net_state.proofs.Prelude.{may_link, ◌≡◌, ◌≢◌, ℕ, ◌+◌, ◌<◌, true, false, length, Some, IsTrue, refl, sym, ap, subst, ◌∙◌, arith, true≢false, linked, present, State, IsState, is_at, linked_back, linked_present, present_range, pointer_linked, if_some_from, is_at_from_some, pointer-with_pointer_same, IsChange, changed_state, StateView, affected_by, IsUnaffected, AreNamesBelow, Change, Pointed, Flagged, Linked, Unlinked, Joined, Removed}
 use Rattle.net_state.proofs.Rounds.{IsSameRound, round_pointed, round_flagged, round_linked, round_unlinked, round_seated}
 
 not_other : (b w : ℕ) → is_at (Some b) w ≡ false → w ≢ b
@@ -50,8 +49,8 @@ names_below before now (Pointed v was is) places c length =
 names_below before now (Flagged v was is) places c length = record { node = node_below before.state v places length c.due.0; one = tt; two = tt }
 names_below before now (Linked a b) places c length =
     let s = before.state in
-    let ends = new_edge s.network a b c.due in
-    record { node = node_below s a places length ends.lower; one = node_below s b places length ends.upper; two = tt }
+    let ends = may_link s.network a b c.due in
+    record { node = node_below s a places length ends.here_a; one = node_below s b places length ends.here_b; two = tt }
 names_below before now (Unlinked a b) places c length =
     let s = before.state in
     record { node = target_below s b a places length c.was_state (linked_back s.network b a ∙ c.due.0); one = target_below s a b places length c.was_state c.due.0; two = tt }

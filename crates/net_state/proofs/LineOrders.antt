@@ -1,21 +1,6 @@
 -- The lines of every state are in order.
-use Rattle.std.proofs.Common.{◌≡◌, ℕ, zero, suc, ◌+◌, ◌<◌, ◌≤◌, Bool, true, false, cond, List, [], ◌∷◌, map, filter, IsTrue, nat_eq, refl, sym, ap, ◌∙◌, subst, arith}
-use Rattle.std.specs.Prelude.{T}
-use Rattle.std.specs.List.{range_with_len, list_any}
-use Rattle.std.specs.Cmp.{tied_itself}
-use Rattle.std.specs.Ordering.{eq_by_cmp, nat_cmp, ordering_then, is_eq, is_lt}
-use Rattle.std.specs.declared.cmp.Ordering.{Ordering}
-use Rattle.std.specs.declared.cmp.Ordering.TheVariants.{Less, Equal, Greater}
+use Rattle.net_state.proofs.Prelude.{◌≡◌, ℕ, zero, suc, ◌+◌, ◌<◌, ◌≤◌, Bool, true, false, cond, List, ◌∷◌, map, filter, IsTrue, nat_eq, refl, sym, ap, ◌∙◌, subst, arith, T, range_with_len, list_any, tied_itself, eq_by_cmp, nat_cmp, ordering_then, is_eq, is_lt, Ordering, Less, Equal, Greater, is_sorted, below_all, and_parts, true≢false, lt-ltb, or_left, pair_total, present_range, pair_cmp, present, edge_list, State, IsState, node_record_at, node_records, NodeRecord, NamesRise, EdgesAscend, NoStateHas, []}
 use Rattle.std.specs.FinMap as finmap
-use Rattle.std.specs.FinMap.Entries.{is_sorted, below_all}
-use Rattle.std.proofs.lemmas.Bool.{and_parts, true≢false, lt-ltb, or_left}
-use Rattle.machine_laws.proofs.Edges.{pair_total}
-use Rattle.machine_laws.proofs.Neighbours.{present_range}
-use Rattle.rule_machine.specs.Network.{pair_cmp, present, edge_list}
-use Rattle.rule_machine.specs.State.{State, IsState}
-use Rattle.rule_machine.specs.Base.{node_record_at, node_records}
-use Rattle.rule_machine.specs.declared.base.NodeRecord.{NodeRecord}
-use Rattle.net_state.specs.BaseLines.{NamesRise, EdgesAscend, NoStateHas}
 
 ranged_rise : (s : State) (n a last : ℕ) → last < a → NamesRise last (map (node_record_at s) (filter (present s.network) (range_with_len a n)))
 ranged_rise s zero a last below = tt

@@ -1,58 +1,11 @@
 -- Networks made line by line: what each name, each edge and each pair of registers adds.
-use Rattle.std.proofs.Common.{◌≡◌, ℕ, ◌+◌, ◌<◌, ◌≤◌, suc, zero, Bool, true, false, not, cond, ◌&&◌, List, [], ◌∷◌, ◌++◌, length, map, filter, get_or, take, Option, None, Some, IsTrue, nat_eq, nat_le, leb, refl, sym, ap, ap₂, ◌∙◌, find, min, max, subst, ⊎_elim, arith, add-one}
-use Rattle.std.specs.Cmp.{tied_itself}
-use Rattle.std.specs.List.{range_with_len, list_any}
-use Rattle.std.specs.List.Sorted.{IsStrictlyIncreasing}
-use Rattle.std.specs.Ordering.{eq_by_cmp, ordering_reverse, is_eq}
-use Rattle.std.specs.declared.cmp.Ordering.TheVariants.{Less, Greater}
-use Rattle.std.proofs.lemmas.Bool.{true≢false, eq-eqb, ne_eqb, false_from_ne_true, leb-true, and_parts, not-false, or_from}
-use Rattle.std.proofs.lemmas.List.{length-map, length-take, take_more}
-use Rattle.std.proofs.lemmas.List.Folds.{list_any_at}
-use Rattle.rule_machine.specs.declared.base.NodeRecord.{NodeRecord}
-use Rattle.rule_machine.specs.declared.refusal.Refusal.TheVariants.{UnknownNode, SelfLoop, AlreadyLinked, TooManyEdges, NotNeighbour}
-use Rattle.rule_machine.specs.Network.{Network, pair_cmp, edge, present, linked, names, edge_list, edge_count, with_edge, edgeless_with, first_names}
-use Rattle.rule_machine.specs.State.{State, IsState, pointer}
-use Rattle.rule_machine.specs.Disturbance.{after_point, after_flag}
-use Rattle.rule_machine.specs.Refuse.{link_refusal, point_refusal}
-use Rattle.rule_machine.specs.Base.{node_record_at, node_records}
-use Rattle.machine_laws.proofs.Edges.{pair_total}
-use Rattle.machine_laws.proofs.Neighbours.{present_range, option_cases, names_none, names_some, linked_pair}
-use Rattle.machine_laws.proofs.Pointers.{pointer_linked}
-use Rattle.machine_laws.proofs.Search.{cond-none}
-use Rattle.machine_laws.proofs.Writes.{pointer-with_pointer_other, pointer-with_pointer_same, flag-with_flag_other, flag-with_flag_same}
-use Rattle.graph_store.specs.Rows.{has}
-use Rattle.graph_store.proofs.PresentRows.{first_names_at}
-use Rattle.graph_store.proofs.AscendingLists.{part_of_names}
-use Rattle.net_state.specs.BaseLines.{NamesRise, EdgesAscend}
+use Rattle.net_state.proofs.Prelude.{map-map, map-id, ◌≡◌, ℕ, ◌+◌, ◌<◌, ◌≤◌, suc, zero, Bool, true, false, not, cond, ◌&&◌, List, ◌∷◌, ◌++◌, length, map, filter, get_or, take, Option, None, Some, IsTrue, nat_eq, leb, refl, sym, ap, ap₂, ◌∙◌, min, max, subst, arith, add-one, tied_itself, range_with_len, list_any, IsStrictlyIncreasing, eq_by_cmp, ordering_reverse, is_eq, Less, Greater, true≢false, eq-eqb, ne_eqb, false_from_ne_true, leb-true, and_parts, not-false, or_from, length-map, length-take, take_more, list_any_at, NodeRecord, UnknownNode, NotNeighbour, Network, pair_cmp, edge, present, linked, names, edge_list, edge_count, with_edge, edgeless_with, first_names, State, IsState, pointer, after_point, after_flag, link_refusal, point_refusal, node_record_at, node_records, pair_total, present_range, linked_pair, pointer_linked, cond-none, pointer-with_pointer_other, pointer-with_pointer_same, flag-with_flag_other, flag-with_flag_same, has, first_names_at, part_of_names, NamesRise, EdgesAscend, map_push, names_present, in_names, or_parts, AllPairs-from_increasing, nil_from_length, IsIn, list_any_none, get_or-take, filter_passes, get_or-map, map_more, take-map, get_or_default, []}
 use Rattle.std.specs.FinMap as finmap
-use Rattle.std.proofs.lemmas.Bool.{eqb-true}
 use Rattle.machine_laws.proofs.Edges as edges
 
 -- the names of these places
 abbrev pub names_in : List NodeRecord → List ℕ
 names_in nodes = map (λ p. p.node) nodes
-
--- all are below a name
-abbrev pub NamesBelow : List NodeRecord → ℕ → Type 0
-NamesBelow [] v = Unit {0}
-NamesBelow (p ∷ nodes) v = (p.node < v) × NamesBelow nodes v
-
-pub names_below : (u : ℕ) (nodes : List NodeRecord) (k : ℕ) (d : NodeRecord) → NamesRise u nodes → k < length nodes → (u < (get_or nodes k d).node) × NamesBelow (take k nodes) (get_or nodes k d).node
-names_below u [] k d up within = absurd (omega arith)
-names_below u (p ∷ nodes) zero d up within = (up.0, tt)
-names_below u (p ∷ nodes) (suc k) d up within =
-    let more = names_below p.node nodes k d up.1 (omega (arith, within)) in
-    (omega (arith, up.0, more.0), (more.0, more.1))
-
-below_absent : (nodes : List NodeRecord) (v : ℕ) → NamesBelow nodes v → has (names_in nodes) v ≡ false
-below_absent [] v below = refl
-below_absent (p ∷ nodes) v below =
-    let lt = below.0 in or_from _ _ (ne_eqb v p.node (λ e. omega (arith, e, lt))) (below_absent nodes v below.1)
-
--- the next name is none of those before
-pub absent_next : (nodes : List NodeRecord) (k : ℕ) (place : NodeRecord) → NamesRise 0 nodes → k < length nodes → place ≡ get_or nodes k place → has (names_in (take k nodes)) place.node ≡ false
-absent_next nodes k place up within is =
-    below_absent (take k nodes) place.node (subst (λ (p : NodeRecord). NamesBelow (take k nodes) p.node) (sym is) (names_below 0 nodes k place up within).1)
 
 increasing : (u : ℕ) (nodes : List NodeRecord) → NamesRise u nodes → IsStrictlyIncreasing (names_in nodes)
 increasing u [] up k inside = absurd (omega arith)
@@ -60,6 +13,21 @@ increasing u (p ∷ []) up k inside = absurd (omega arith)
 increasing u (p ∷ q ∷ nodes) up zero inside = up.1.0
 increasing u (p ∷ q ∷ nodes) up (suc k) inside =
     let h = increasing p.node (q ∷ nodes) up.1 k (omega arith) in simp add-one (simp add-one at h)
+
+-- a name of an ascending list does not occur before its index
+pub not_before : (nodes : List ℕ) (i w : ℕ) → IsStrictlyIncreasing nodes → i < length nodes → w ≡ get_or nodes i w → list_any (nat_eq w) (take i nodes) ≡ false
+not_before nodes i w rising inside is =
+    list_any_none (nat_eq w) (take i nodes) (λ k d there.
+    let lt : k < i = omega (arith, length-take i nodes) in
+    let below : get_or nodes k w < get_or nodes i w = AllPairs-from_increasing nodes rising k i w lt inside in
+    let at : get_or (take i nodes) k d ≡ get_or nodes k w = get_or-take i nodes k d lt ∙ get_or_default nodes k d w (omega arith) in
+    ne_eqb w (get_or (take i nodes) k d) (λ same. omega (arith, below, at, is, same)))
+
+-- the next name is none of those before
+pub absent_next : (nodes : List NodeRecord) (k : ℕ) (place : NodeRecord) → NamesRise 0 nodes → k < length nodes → place ≡ get_or nodes k place → has (names_in (take k nodes)) place.node ≡ false
+absent_next nodes k place up within is =
+    ap (λ l. has l place.node) (sym (take-map (λ p. p.node) k nodes))
+    ∙ not_before (names_in nodes) k place.node (increasing 0 nodes up) (omega (arith, within, length-map nodes (λ p. p.node))) (ap (λ p. p.node) is ∙ sym (get_or-map (λ p. p.node) nodes k place place.node within))
 
 -- the names that are nodes, if these are the names
 pub names_are : (net : Network) (nodes : List NodeRecord) → NamesRise 0 nodes → ((x : ℕ) → present net x ≡ has (names_in nodes) x) → names net ≡ names_in nodes
@@ -76,20 +44,12 @@ nobody_there size v = false_from_ne_true (present (edgeless_with size 0) v) (λ 
 
 -- ---- what a state lists
 
-listed_in : (s : State) (p : ℕ → Bool) (xs : List ℕ) (k : ℕ) (d : NodeRecord) → k < length (map (node_record_at s) (filter p xs)) → (v : ℕ) × IsTrue (p v) × (get_or (map (node_record_at s) (filter p xs)) k d ≡ node_record_at s v)
-listed_in s p [] k d within = absurd (omega (arith, within))
-listed_in s p (x ∷ xs) k d within = step (p x) refl (λ j inside. listed_in s p xs j d inside) k within
-  where
-    step : (b : Bool) → p x ≡ b → ((j : ℕ) → j < length (map (node_record_at s) (filter p xs)) → (v : ℕ) × IsTrue (p v) × (get_or (map (node_record_at s) (filter p xs)) j d ≡ node_record_at s v)) → (k : ℕ) → k < length (map (node_record_at s) (cond b (x ∷ filter p xs) (filter p xs))) → (v : ℕ) × IsTrue (p v) × (get_or (map (node_record_at s) (cond b (x ∷ filter p xs) (filter p xs))) k d ≡ node_record_at s v)
-    step true is rest zero within = (x, is, refl)
-    step true is rest (suc k) within = rest k (omega (arith, within))
-    step false is rest k within = rest k within
-
 pub place_listed : (s : State) (nodes : List NodeRecord) (k : ℕ) (place : NodeRecord) → node_records s ≡ nodes → k < length nodes → place ≡ get_or nodes k place → IsTrue (present s.network place.node) × (place ≡ node_record_at s place.node)
 place_listed s nodes k place same within is =
-    let at = listed_in s (present s.network) (range_with_len 1 s.network.size) k place (let len = ap length same in omega (arith, within, len)) in
-    let e : place ≡ node_record_at s at.0 = is ∙ ap (λ l. get_or l k place) (sym same) ∙ at.2 in
-    subst (λ (q : NodeRecord). IsTrue (present s.network q.node) × (q ≡ node_record_at s q.node)) (sym e) (at.1, refl)
+    let v = get_or (names s.network) k 0 in
+    let inside : k < length (names s.network) = omega (arith, within, ap length same, length-map (names s.network) (node_record_at s)) in
+    let e : place ≡ node_record_at s v = is ∙ ap (λ l. get_or l k place) (sym same) ∙ get_or-map (node_record_at s) (names s.network) k 0 place inside in
+    subst (λ (q : NodeRecord). IsTrue (present s.network q.node) × (q ≡ node_record_at s q.node)) (sym e) (filter_passes (present s.network) (range_with_len 1 s.network.size) k 0 inside, refl)
 
 pub not_beyond : (s : State) (nodes : List NodeRecord) (k : ℕ) (place : NodeRecord) (size : ℕ) → k < length nodes → place ≡ get_or nodes k place → size < place.node → s.network.size ≡ size → node_records s ≡ nodes → ⊥
 not_beyond s nodes k place size within is above same listed =
@@ -97,14 +57,7 @@ not_beyond s nodes k place size within is above same listed =
 
 -- the same names are the same nodes
 present_in : (net more : Network) → names net ≡ names more → (v : ℕ) → present net v ≡ true → present more v ≡ true
-present_in net more same v here =
-    ⊎_elim
-    (λ none. absurd (true≢false (sym (eq-eqb v v refl) ∙ names_none net (λ x. nat_eq x v) (ap (find_at v) same ∙ none) v here)))
-    (λ some. let at = names_some more (λ x. nat_eq x v) some.0 some.1 in subst (λ y. present more y ≡ true) (eqb-true some.0 v at.1) at.0)
-    (option_cases (find_at v (names more)))
-  where
-    find_at : ℕ → List ℕ → Option ℕ
-    find_at v xs = find (λ x. nat_eq x v) xs
+present_in net more same v here = names_present more v (subst (IsIn v) same (in_names net v here))
 
 pub names_same : (net more : Network) → net.size ≡ more.size → net.here ≡ more.here → names net ≡ names more
 names_same net more size here i =
@@ -137,19 +90,16 @@ not_there (q ∷ qs) e all = or_from _ _ (ap is_eq (greater q e all.0)) (not_the
 low_pair : (a b : ℕ) → a < b → edge a b ≡ (a, b)
 low_pair a b lt = λ i. ((let low : min a b ≡ a = omega arith in low) i, (let high : max a b ≡ b = omega arith in high) i)
 
-free : (p q e l m : Bool) → p ≡ true → q ≡ true → e ≡ false → l ≡ false → m ≡ false → cond (not (p && q)) (Some UnknownNode) (cond e (Some SelfLoop) (cond l (Some AlreadyLinked) (cond m (Some TooManyEdges) None))) ≡ None
-free p q e l m first second third fourth fifth i =
-    cond (not (first i && second i)) (Some UnknownNode) (cond (third i) (Some SelfLoop) (cond (fourth i) (Some AlreadyLinked) (cond (fifth i) (Some TooManyEdges) None)))
-
 -- an edge at its place
 pub may_link : (net : Network) (es : List (ℕ × ℕ)) (k : ℕ) (e : ℕ × ℕ) → edge_list net ≡ take k es → EdgesAscend (0, 0) es → k < length es → length es ≤ 1048576 → e ≡ get_or es k e → e.0 < e.1 → present net e.0 ≡ true → present net e.1 ≡ true → link_refusal net e.0 e.1 ≡ None
 may_link net es k e listed up within few is lt low high =
     let all : AllLess (edge_list net) e = subst (λ l. AllLess l e) (sym listed) (subst (AllLess (take k es)) (sym is) (edges_below (0, 0) es k e up within).1) in
-    let apart : linked net e.0 e.1 ≡ false = linked_pair net e.0 e.1 lt ∙ finmap.contains_key-keys net.edges e ∙ not_there (edge_list net) e all in
+    let fresh : linked net e.0 e.1 ≡ false = linked_pair net e.0 e.1 lt ∙ finmap.contains_key-keys net.edges e ∙ not_there (edge_list net) e all in
     let count : edge_count net ≡ length (take k es) = finmap.len-entries net.edges ∙ sym (length-map (finmap.entries net.edges) (λ x. x.0)) ∙ ap length listed in
     let short = length-take k es in
-    free (present net e.0) (present net e.1) (nat_eq e.0 e.1) (linked net e.0 e.1) (nat_le 1048576 (edge_count net)) low high (ne_eqb e.0 e.1 (λ same. omega (arith, lt, same))) apart
-    (false_from_ne_true _ (λ h. let le = leb-true 1048576 (edge_count net) h in omega (arith, le, count, short, within, few)))
+    let apart = ne_eqb e.0 e.1 (λ same. omega (arith, lt, same)) in
+    let few = false_from_ne_true _ (λ h. let le = leb-true 1048576 (edge_count net) h in omega (arith, le, count, short, within, few)) in
+    grind arith
 
 pub list_more : (net : Network) (es : List (ℕ × ℕ)) (k : ℕ) (e : ℕ × ℕ) → edge_list net ≡ take k es → EdgesAscend (0, 0) es → k < length es → e ≡ get_or es k e → e.0 < e.1 → edge_list (with_edge net e.0 e.1) ≡ take (k + 1) es
 list_more net es k e listed up within is lt =
@@ -166,25 +116,19 @@ edge_listed s es k e same within is =
     finmap.contains_key-keys s.network.edges e ∙ ap (list_any (eq_by_cmp pair_cmp e)) same
     ∙ list_any_at (eq_by_cmp pair_cmp e) es k e within (ap is_eq (ap (pair_cmp e) (sym is) ∙ tied_itself pair_total e))
 
-pub stranger_low : (s : State) (net : Network) (es : List (ℕ × ℕ)) (k : ℕ) (e : ℕ × ℕ) → IsState s → names s.network ≡ names net → edge_list s.network ≡ es → k < length es → e ≡ get_or es k e → present net e.0 ≡ true
-stranger_low s net es k e good same listed within is =
-    present_in s.network net same e.0 (good.is_network.low_present e.0 e.1 (edge_listed s es k e listed within is))
-
-pub stranger_high : (s : State) (net : Network) (es : List (ℕ × ℕ)) (k : ℕ) (e : ℕ × ℕ) → IsState s → names s.network ≡ names net → edge_list s.network ≡ es → k < length es → e ≡ get_or es k e → present net e.1 ≡ true
-stranger_high s net es k e good same listed within is =
-    present_in s.network net same e.1 (good.is_network.high_present e.0 e.1 (edge_listed s es k e listed within is))
+-- so its ends are nodes of each network of the same names
+pub ends_present : (s : State) (net : Network) (es : List (ℕ × ℕ)) (k : ℕ) (e : ℕ × ℕ) → IsState s → names s.network ≡ names net → edge_list s.network ≡ es → k < length es → e ≡ get_or es k e → (present net e.0 ≡ true) × (present net e.1 ≡ true)
+ends_present s net es k e good same listed within is =
+    let there = edge_listed s es k e listed within is in
+    (present_in s.network net same e.0 (good.is_network.low_present e.0 e.1 there), present_in s.network net same e.1 (good.is_network.high_present e.0 e.1 there))
 
 -- ---- registers
 
-written_before : (s u : State) (v : ℕ) (some : List NodeRecord) → ((x : ℕ) → (x ≡ v → ⊥) → node_record_at u x ≡ node_record_at s x) → NamesBelow some v → map (node_record_at u) (names_in some) ≡ map (node_record_at s) (names_in some)
-written_before s u v [] kept below = refl
-written_before s u v (p ∷ some) kept below =
-    let lt = below.0 in
-    ap₂ (λ q l. q ∷ l) (kept p.node (λ same. omega (arith, lt, same))) (written_before s u v some kept below.1)
-
-at_end : (u : State) (some : List NodeRecord) (p : NodeRecord) → map (node_record_at u) (names_in (some ++ p ∷ [])) ≡ map (node_record_at u) (names_in some) ++ node_record_at u p.node ∷ []
-at_end u [] p = refl
-at_end u (q ∷ some) p = ap (λ l. node_record_at u q.node ∷ l) (at_end u some p)
+written_before : (s u : State) (v : ℕ) (some : List NodeRecord) → ((x : ℕ) → (x ≡ v → ⊥) → node_record_at u x ≡ node_record_at s x) → has (names_in some) v ≡ false → map (node_record_at u) (names_in some) ≡ map (node_record_at s) (names_in some)
+written_before s u v [] kept absent = refl
+written_before s u v (p ∷ some) kept absent =
+    let parts = or_parts (nat_eq v p.node) (has (names_in some) v) absent in
+    ap₂ (λ q l. q ∷ l) (kept p.node (λ same. true≢false (sym (eq-eqb v p.node (sym same)) ∙ parts.0))) (written_before s u v some kept parts.1)
 
 pub written_more : (s : State) (nodes : List NodeRecord) (k : ℕ) (place : NodeRecord) → IsState s → NamesRise 0 nodes → k < length nodes → place ≡ get_or nodes k place → place.node ≤ s.network.size → map (node_record_at s) (names_in (take k nodes)) ≡ take k nodes → map (node_record_at (after_flag (after_point s place.node place.target) place.node place.flagged)) (names_in (take (k + 1) nodes)) ≡ take (k + 1) nodes
 written_more s nodes k place good up within is high so_far =
@@ -192,7 +136,6 @@ written_more s nodes k place good up within is high so_far =
     let v = place.node in
     let plen = good.pointers_len in
     let flen = good.flags_len in
-    let below : NamesBelow (take k nodes) v = subst (λ (p : NodeRecord). NamesBelow (take k nodes) p.node) (sym is) (names_below 0 nodes k place up within).1 in
     let kept : (x : ℕ) → (x ≡ v → ⊥) → node_record_at u x ≡ node_record_at s x = λ x apart i. record {
       node = x;
       target = pointer-with_pointer_other s.registers v place.target x apart i;
@@ -203,10 +146,10 @@ written_more s nodes k place good up within is high so_far =
       target = pointer-with_pointer_same s.registers v place.target (omega (arith, plen, high)) i;
       flagged = flag-with_flag_same s.registers v place.flagged (omega (arith, flen, high)) i;
     } in
-    let next : take (k + 1) nodes ≡ take k nodes ++ place ∷ [] = take_more nodes k place within ∙ ap (λ p. take k nodes ++ p ∷ []) (sym is) in
-    ap (λ l. map (node_record_at u) (names_in l)) next ∙ at_end u (take k nodes) place
-    ∙ ap₂ (λ l p. l ++ p ∷ []) (written_before s u v (take k nodes) kept below ∙ so_far) here
-    ∙ sym next
+    ap (map (node_record_at u)) (map_more (λ p. p.node) nodes k place within)
+    ∙ map_push (node_record_at u) (names_in (take k nodes)) (get_or nodes k place).node
+    ∙ ap₂ (λ l p. l ++ p ∷ []) (written_before s u v (take k nodes) kept (absent_next nodes k place up within is) ∙ so_far) (ap (λ p. node_record_at u p.node) (sym is) ∙ here ∙ is)
+    ∙ sym (take_more nodes k place within)
 
 pointer_none : (net : Network) (v : ℕ) (o : Option ℕ) → present net v ≡ true → ((w : ℕ) → o ≡ Some w → (present net w ≡ true) × (linked net v w ≡ true)) → point_refusal net v o ≡ None
 pointer_none net v None here near = ap (λ b. cond b None (Some UnknownNode)) here
@@ -231,17 +174,9 @@ allowed_present net v None e = grind arith
 allowed_present net v (Some w) e =
     (and_parts (present net v) (present net w) (not-false _ (cond-none (not (present net v && present net w)) UnknownNode _ e).0)).0
 
-names_mapped : (s : State) (vs : List ℕ) → names_in (map (node_record_at s) vs) ≡ vs
-names_mapped s [] = refl
-names_mapped s (v ∷ vs) = ap (λ l. v ∷ l) (names_mapped s vs)
-
 -- the names of a state whose nodes are listed
 pub names_of : (s : State) (nodes : List NodeRecord) → node_records s ≡ nodes → names s.network ≡ names_in nodes
-names_of s nodes same = sym (names_mapped s (names s.network)) ∙ ap names_in same
-
-none_of : {X : Type 0} (xs : List X) → length xs ≡ 0 → xs ≡ []
-none_of [] e = refl
-none_of (x ∷ xs) e = absurd (omega (arith, e))
+names_of s nodes same = sym (map-map (λ p. p.node) (node_record_at s) (names s.network) ∙ map-id (names s.network)) ∙ ap names_in same
 
 pub nothing_listed : finmap.keys (finmap.empty {K = ℕ × ℕ} {X = Unit {0}} {R = pair_cmp}) ≡ []
-nothing_listed = ap (map (λ e. e.0)) (none_of (finmap.entries (finmap.empty {K = ℕ × ℕ} {X = Unit {0}} {R = pair_cmp})) (sym (finmap.len-entries (finmap.empty {K = ℕ × ℕ} {X = Unit {0}} {R = pair_cmp})) ∙ finmap.len-empty pair_cmp (Unit {0})))
+nothing_listed = ap (map (λ e. e.0)) (nil_from_length _ (sym (finmap.len-entries _) ∙ finmap.len-empty pair_cmp (Unit {0})))

@@ -1,5 +1,5 @@
 -- The nodes that a scan of all names finds are those of a base.
-use Rattle.net_state.proofs.Prelude.{◌≡◌, ℕ, ◌+◌, Bool, true, false, cond, List, [], ◌∷◌, ◌++◌, map, filter, filter_map, Option, None, Some, SomeIff, option_to_list, refl, sym, ap, ◌∙◌, subst, arith, range_with_len, cons_option, map-id, map-range_with_len_more, filter_map-append, present, State, node_record_at, node_records, place_in}
+use Rattle.net_state.proofs.Prelude.{◌≡◌, ℕ, ◌+◌, Bool, true, false, cond, List, ◌∷◌, ◌++◌, map, filter, filter_map, Option, None, Some, SomeIff, option_to_list, refl, sym, ap, ◌∙◌, subst, arith, range_with_len, cons_option, map-id, map-range_with_len_more, filter_map-append, present, State, node_record_at, node_records, place_in, []}
 
 found_in : (s : State) (xs : List ℕ) → filter_map (place_in s) xs ≡ map (node_record_at s) (filter (present s.network) xs)
 found_in s [] = refl

@@ -173,9 +173,12 @@ fn write_flags<O: Observer>(net: &mut NetState, observer: &mut O, moves: &[Moved
     ensures stays { (names : List Bool) → O.stays names observer.old → O.stays names observer.new }
 {
     for moved in moves {
-        if moved.act == Act::Update {
-            let married = net.registers().married(moved.node);
-            set_flag(net, observer, moved.node, married);
+        match moved.act {
+            Act::Update => {
+                let married = net.registers().married(moved.node);
+                set_flag(net, observer, moved.node, married);
+            }
+            Act::Marry | Act::Seduce | Act::Abandon => {}
         }
     }
 }

@@ -1,4 +1,4 @@
-use Rattle.net_state.proofs.Prelude.{◌≡◌, sym, ap, subst, ◌∙◌, Network, without_edge, Registers, IsState, points, without_pointer, unlink_keeps, StateView, state_of}
+use Rattle.net_state.proofs.Prelude.{◌≡◌, sym, ap, subst, ◌∙◌, Network, without_edge, Registers, IsState, points, without_pointer, unlink_keeps, StateView, state_of, rules}
 use Rattle.net_state.proofs.Edges.{stays}
 use Rattle.net_state.proofs.disturb.remove_edge.Goals as goal
 
@@ -12,16 +12,4 @@ invariant_of-net g c =
     subst (λ (n : Network). IsState (state_of n r)) (sym c.remove_edge.ensures.network) (subst (λ (q : Registers). IsState (state_of (without_edge net c.args.a c.args.b) q)) same (unlink_keeps (state_of net r) c.args.a c.args.b c.net.invariant))
 
 pub saw-requires : goal.saw-requires
-saw-requires g c =
-    let r : Registers = c.net.inside.registers in (
-      c.args.net.now,
-      (
-        record {
-          was_state = subst (λ (h : StateView). IsState h.state) c.net.view_is c.net.invariant;
-          is_state = invariant_of-net g c;
-          due = (c.requires.linked, (c.requires.not_there, c.requires.not_back));
-          made = ap (λ n. state_of n r) c.remove_edge.ensures.network ∙ ap (λ (h : StateView). state_of (without_edge h.state.network c.args.a c.args.b) h.state.registers) c.net.view_is;
-        },
-        c.requires.fits,
-      ),
-    )
+saw-requires g c = let kept = invariant_of-net g c in (c.args.net.now, (search rules, c.requires.fits))

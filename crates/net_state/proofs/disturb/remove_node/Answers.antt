@@ -1,4 +1,4 @@
-use Rattle.net_state.proofs.Prelude.{◌≡◌, ◌∙◌, [], false, ap, sym, subst, Network, neighbours, Registers, IsState, flag, flag_of, StateView, state_of, without_place, parted_is_state}
+use Rattle.net_state.proofs.Prelude.{◌≡◌, false, sym, subst, Network, neighbours, Registers, IsState, flag, flag_of, StateView, state_of, parted_is_state, rules, []}
 use Rattle.net_state.proofs.disturb.remove_node.Goals as goal
 
 pub invariant_of-net : goal.invariant_of-net
@@ -10,16 +10,4 @@ invariant_of-net g c =
     subst (λ (n : Network). IsState (state_of n r)) (sym c.part.ensures.place) (parted_is_state net r c.args.v c.net.invariant none unflagged)
 
 pub saw-requires : goal.saw-requires
-saw-requires g c =
-    let r : Registers = c.net.inside.registers in (
-      c.args.net.now,
-      (
-        record {
-          was_state = subst (λ (h : StateView). IsState h.state) c.net.view_is c.net.invariant;
-          is_state = invariant_of-net g c;
-          due = (c.requires.present, (c.requires.alone, c.requires.unflagged));
-          made = ap (λ n. state_of n r) c.part.ensures.place ∙ ap (λ (h : StateView). without_place h.state c.args.v) c.net.view_is;
-        },
-        c.requires.fits,
-      ),
-    )
+saw-requires g c = let kept = invariant_of-net g c in (c.args.net.now, (search rules, c.requires.fits))

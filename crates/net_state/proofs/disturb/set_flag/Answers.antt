@@ -1,4 +1,4 @@
-use Rattle.std.proofs.Common.{rules}
+use Rattle.net_state.proofs.Prelude.{rules}
 use Rattle.net_state.proofs.disturb.set_flag.Goals as goal
 
 pub saw-requires : goal.saw-requires

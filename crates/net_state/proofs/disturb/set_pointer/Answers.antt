@@ -1,6 +1,4 @@
-use Rattle.machine_laws.proofs.StatePreservation.{point_keeps}
-use Rattle.machine_laws.proofs.Writes.{if_some_at}
-use Rattle.net_state.proofs.Prelude.{◌≡◌, IsTrue, rules, sym, subst, linked, after_point, IsState, StateView, state_of}
+use Rattle.net_state.proofs.Prelude.{◌≡◌, IsTrue, rules, sym, subst, linked, after_point, IsState, StateView, state_of, point_keeps, if_some_at}
 use Rattle.net_state.proofs.disturb.set_pointer.Goals as goal
 
 pub saw-requires : goal.saw-requires

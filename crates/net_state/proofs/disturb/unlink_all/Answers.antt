@@ -1,10 +1,5 @@
 use Rattle.net_state.proofs.Prelude.{◌<◌, IsTrue, sym, ap, subst, ◌∙◌, present, edge_count, State, after_leave, leave_after_unlink, fewer_edges}
-use Rattle.net_state.proofs.Edges.{may_unlink}
 use Rattle.net_state.proofs.disturb.unlink_all.Goals as goal
-
-pub unlink-requires-clause-accepted : goal.unlink-requires-clause-accepted
-unlink-requires-clause-accepted g c =
-    may_unlink c.loop-w.net.state.network c.args.v c.in-Some.w c.last_neighbour.ensures.sound.is_network c.in-Some.ensures.last
 
 pub loop-w-preserved : goal.loop-w-preserved
 loop-w-preserved g c = record {

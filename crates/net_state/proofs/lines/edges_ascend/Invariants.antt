@@ -1,5 +1,4 @@
-use Rattle.std.proofs.Common.{◌↔◌, drop}
-use Rattle.net_state.specs.BaseLines.{EdgesAscend}
+use Rattle.net_state.proofs.Prelude.{◌↔◌, drop, EdgesAscend}
 use Rattle.net_state.proofs.lines.edges_ascend.Given as goal
 
 abbrev pub invariant-loop-edge : goal.invariant-loop-edge

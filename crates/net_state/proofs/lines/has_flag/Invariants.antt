@@ -1,5 +1,4 @@
-use Rattle.std.proofs.Common.{◌≡◌, false, take}
-use Rattle.std.specs.List.{list_any}
+use Rattle.net_state.proofs.Prelude.{◌≡◌, false, take, list_any}
 use Rattle.net_state.proofs.lines.has_flag.Given as goal
 
 abbrev pub invariant-loop-place : goal.invariant-loop-place

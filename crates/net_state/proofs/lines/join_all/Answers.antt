@@ -1,6 +1,4 @@
-use Rattle.std.proofs.Common.{◌∙◌, ap, arith}
-use Rattle.std.proofs.lemmas.List.{take_all}
-use Rattle.graph_store.specs.Rows.{has}
+use Rattle.net_state.proofs.Prelude.{◌∙◌, ap, arith, take_all, has}
 use Rattle.net_state.proofs.NetworkBuilding.{names_in, names_are, not_beyond, absent_next}
 use Rattle.net_state.proofs.lines.join_all.Goals as goal
 

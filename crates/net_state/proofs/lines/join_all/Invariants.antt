@@ -1,6 +1,4 @@
-use Rattle.std.proofs.Common.{◌≡◌, ℕ, take}
-use Rattle.graph_store.specs.Rows.{has}
-use Rattle.rule_machine.specs.Network.{present}
+use Rattle.net_state.proofs.Prelude.{◌≡◌, ℕ, take, has, present}
 use Rattle.net_state.proofs.NetworkBuilding.{names_in}
 use Rattle.net_state.proofs.lines.join_all.Given as goal
 

@@ -1,21 +1,20 @@
-use Rattle.std.proofs.Common.{◌≡◌, ◌∙◌, true, sym, ap, ap₂}
-use Rattle.std.proofs.lemmas.Bool.{true≢false}
-use Rattle.rule_machine.specs.Network.{present, edge_list, with_edge}
-use Rattle.rule_machine.specs.Refuse.{link_refusal}
-use Rattle.net_state.proofs.NetworkBuilding.{may_link, list_more, stranger_low, stranger_high, names_same}
+use Rattle.net_state.proofs.Prelude.{◌≡◌, ◌∙◌, true, sym, ap, ap₂, true≢false, present, edge_list, with_edge, link_refusal}
+use Rattle.net_state.proofs.NetworkBuilding.{may_link, list_more, ends_present, names_same}
 use Rattle.net_state.proofs.lines.link_all.Goals as goal
 
 pub returns-then-not-has-clause-stranger : goal.returns-then-not-has-clause-stranger
 returns-then-not-has-clause-stranger c = λ fails s good same listed.
     let net = c.loop-edge.net.state.network in
     let named = same ∙ sym (names_same net c.args.net.now.state.network c.loop-edge.invariant.size c.loop-edge.invariant.here) in
-    true≢false (sym (stranger_low s net c.args.edges.now c.loop-edge.edge-index c.edge-item.result good named listed c.loop-edge-test.true c.edge-item.is) ∙ ap (present net) (sym c.low.ensures.value) ∙ sym c.has.ensures ∙ c.if-not-has.true)
+    let there = ends_present s net c.args.edges.now c.loop-edge.edge-index c.edge-item.result good named listed c.loop-edge-test.true c.edge-item.is in
+    true≢false (sym there.0 ∙ ap (present net) (sym c.low.ensures.value) ∙ sym c.has.ensures ∙ c.if-not-has.true)
 
 pub returns-then-not-has-2-clause-stranger : goal.returns-then-not-has-2-clause-stranger
 returns-then-not-has-2-clause-stranger c = λ fails s good same listed.
     let net = c.loop-edge.net.state.network in
     let named = same ∙ sym (names_same net c.args.net.now.state.network c.loop-edge.invariant.size c.loop-edge.invariant.here) in
-    true≢false (sym (stranger_high s net c.args.edges.now c.loop-edge.edge-index c.edge-item.result good named listed c.loop-edge-test.true c.edge-item.is) ∙ ap (present net) (sym c.high.ensures.value) ∙ sym c.has-in-loop-edge.ensures ∙ c.if-not-has-2.true)
+    let there = ends_present s net c.args.edges.now c.loop-edge.edge-index c.edge-item.result good named listed c.loop-edge-test.true c.edge-item.is in
+    true≢false (sym there.1 ∙ ap (present net) (sym c.high.ensures.value) ∙ sym c.has-in-loop-edge.ensures ∙ c.if-not-has-2.true)
 
 pub link-requires : goal.link-requires
 link-requires c =

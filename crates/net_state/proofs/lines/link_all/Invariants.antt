@@ -1,5 +1,4 @@
-use Rattle.std.proofs.Common.{◌≡◌, take}
-use Rattle.rule_machine.specs.Network.{edge_list}
+use Rattle.net_state.proofs.Prelude.{◌≡◌, take, edge_list}
 use Rattle.net_state.proofs.lines.link_all.Given as goal
 
 abbrev pub invariant-loop-edge : goal.invariant-loop-edge

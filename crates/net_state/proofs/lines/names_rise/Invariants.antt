@@ -1,5 +1,4 @@
-use Rattle.std.proofs.Common.{◌↔◌, drop}
-use Rattle.net_state.specs.BaseLines.{NamesRise}
+use Rattle.net_state.proofs.Prelude.{◌↔◌, drop, NamesRise}
 use Rattle.net_state.proofs.lines.names_rise.Given as goal
 
 abbrev pub invariant-loop-place : goal.invariant-loop-place

@@ -1,10 +1,4 @@
-use Rattle.std.proofs.Common.{◌≡◌, ◌∙◌, ◌+◌, take, None, map, sym, ap}
-use Rattle.std.proofs.lemmas.Bool.{true≢false}
-use Rattle.rule_machine.specs.Network.{names, edge_list}
-use Rattle.rule_machine.specs.State.{State}
-use Rattle.rule_machine.specs.Refuse.{point_refusal}
-use Rattle.rule_machine.specs.Base.{node_record_at}
-use Rattle.machine_laws.proofs.Neighbours.{present_range}
+use Rattle.net_state.proofs.Prelude.{◌≡◌, ◌∙◌, ◌+◌, take, None, map, sym, ap, true≢false, names, edge_list, State, point_refusal, node_record_at, present_range}
 use Rattle.net_state.proofs.NetworkBuilding.{names_in, written_more, pointer_allowed, allowed_present}
 use Rattle.net_state.proofs.lines.write_all.Goals as goal
 

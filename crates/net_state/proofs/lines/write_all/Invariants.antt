@@ -1,5 +1,4 @@
-use Rattle.std.proofs.Common.{◌≡◌, map, take}
-use Rattle.rule_machine.specs.Base.{node_record_at}
+use Rattle.net_state.proofs.Prelude.{◌≡◌, map, take, node_record_at}
 use Rattle.net_state.proofs.NetworkBuilding.{names_in}
 use Rattle.net_state.proofs.lines.write_all.Given as goal
 

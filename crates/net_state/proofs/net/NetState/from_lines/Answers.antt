@@ -1,5 +1,4 @@
-use Rattle.std.proofs.Common.{◌∙◌, refl, sym, ap}
-use Rattle.rule_machine.specs.Network.{present}
+use Rattle.net_state.proofs.Prelude.{◌∙◌, refl, sym, ap, present}
 use Rattle.std.specs.FinMap as finmap
 use Rattle.net_state.proofs.NetworkBuilding.{nobody_there, names_of, names_same, nothing_listed}
 use Rattle.net_state.proofs.net.NetState.from_lines.Goals as goal
