@@ -47,7 +47,7 @@ at_most_part a (suc b) part is = lt-leb a (one_if part) (omega (arith, is)) ∙ 
 pub others_counted : (net : Network) (p : ℕ → Bool) (w v : ℕ) → IsNetwork net → IsTrue (linked net w v) → nat_le (count_by p (neighbours net w)) (one_if (p v)) ≡ not (is_some (find (λ x. not (nat_eq x v) && p x) (neighbours net w)))
 others_counted net p w v is_network h =
     let here = linked_present net v w is_network (linked_back net v w ∙ h) in
-    let turn = near_turn net net w v (λ x. one_if (p x)) (λ x. one_if (not (nat_eq x v) && p x)) refl (λ x. refl) here (
+    let turn = near_turn net net w v (λ x. one_if (p x)) (λ x. one_if (not (nat_eq x v) && p x)) refl here (
     λ x apart. ap (λ b. cond (linked net w x) (one_if (not b && p x)) 0) (sym (ne_eqb x v apart))
     ) in
     let mine = ap (λ b. cond b (one_if (p v)) 0) h in

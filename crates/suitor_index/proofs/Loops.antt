@@ -1,5 +1,5 @@
 -- A node that is counted at one name after another, as open or not as it is now.
-use Rattle.suitor_index.proofs.Prelude.{◌≡◌, ◌≢◌, ℕ, ◌+◌, ◌<◌, ◌≤◌, Bool, true, false, cond, ◌&&◌, ◌||◌, List, length, get_or, take, nat_eq, nat_lt, refl, sym, ap, ap₂, subst, ◌∙◌, ⊎_elim, arith, list_any, both_ways, IsStrictlyIncreasing, and_parts, cases_eq, le-ltb, ltb-false, ltb-true, or_cases, ne_eqb, eqb-true, eq-eqb, true≢false, get_or-take, get_or_default, length-take, take_all, Any-from_list_any, list_any_none, list_any_more, list_any_at, AllPairs-from_increasing, and_right, or-false, Option, is_none, nat_le, Tally, asks_for, tally_of, CanTurn, HasNoneAlone, IsTurned, is_null_with_none_but, one_if}
+use Rattle.suitor_index.proofs.Prelude.{◌≡◌, ◌≢◌, ℕ, ◌+◌, ◌<◌, ◌≤◌, Bool, true, false, cond, ◌&&◌, ◌||◌, List, length, get_or, take, nat_eq, nat_lt, refl, sym, ap, ap₂, subst, ◌∙◌, ⊎_elim, arith, list_any, both_ways, IsStrictlyIncreasing, and_parts, cases_eq, le-ltb, ltb-false, ltb-true, or_cases, ne_eqb, eqb-true, eq-eqb, true≢false, get_or-take, get_or_default, length-take, take_all, Any-from_list_any, list_any_more, list_any_at, AllPairs-from_increasing, and_right, or-false, Option, is_none, nat_le, Tally, asks_for, tally_of, CanTurn, HasNoneAlone, IsTurned, is_null_with_none_but, one_if, not_before}
 
 -- two tests that don't both pass are counted one after the other
 one_or : (a b : Bool) → (b ≡ true → a ≡ false) → one_if (a || b) ≡ one_if a + one_if b
@@ -27,15 +27,6 @@ turned_alike was is p q a b same told = record {
   aims = told.aims;
   reached = λ k. subst (λ t. (tally_of b k).reached + cond was (one_if t) 0 ≡ (tally_of a k).reached + cond is (one_if t) 0) (same k) (told.reached k);
 }
-
--- a name of an ascending list does not occur before its index
-pub not_before : (nodes : List ℕ) (i w : ℕ) → IsStrictlyIncreasing nodes → i < length nodes → w ≡ get_or nodes i w → list_any (nat_eq w) (take i nodes) ≡ false
-not_before nodes i w rising inside is =
-    list_any_none (nat_eq w) (take i nodes) (λ k d there.
-    let lt : k < i = omega (arith, length-take i nodes) in
-    let below : get_or nodes k w < get_or nodes i w = AllPairs-from_increasing nodes rising k i w lt inside in
-    let at : get_or (take i nodes) k d ≡ get_or nodes k w = get_or-take i nodes k d lt ∙ get_or_default nodes k d w (omega arith) in
-    ne_eqb w (get_or (take i nodes) k d) (λ same. omega (arith, below, at, is, same)))
 
 -- the names so far and the next
 pub near_more : (nodes : List ℕ) (i w k : ℕ) → i < length nodes → w ≡ get_or nodes i w → list_any (nat_eq k) (take (i + 1) nodes) ≡ (list_any (nat_eq k) (take i nodes) || nat_eq k w)

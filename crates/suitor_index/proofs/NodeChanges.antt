@@ -134,26 +134,20 @@ half_flagged above opens start now v was is told nodes one two was_open opened a
       now = after ∙ ap₂ opens second (sym (flag_now told.0 now v was is told.1.0));
     }
 
--- they rise
-pub told_rise : (above : Bool) (opens : Option ℕ → Bool → Bool) (r : Registers) (s : State) (v : ℕ) (start pointed : List Tally) (nodes : List ℕ) (was is : Bool) → IsHalfTold above opens r s v start pointed nodes was is → IsStrictlyIncreasing nodes
-told_rise above opens r s v start pointed nodes was is half = subst IsStrictlyIncreasing (sym half.all) (neighbours_rise s.network v)
-
--- they have places
-pub told_within : (above : Bool) (opens : Option ℕ → Bool → Bool) (r : Registers) (s : State) (v : ℕ) (start pointed : List Tally) (nodes : List ℕ) (was is : Bool) → IsHalfTold above opens r s v start pointed nodes was is → (k : ℕ) → list_any (nat_eq k) nodes ≡ true → k < length pointed
-told_within above opens r s v start pointed nodes was is half k listed =
-    let near_k = listed_linked s.network v k (ap (list_any (nat_eq k)) (sym half.all) ∙ listed) in
-    let bounds = present_range s.network k (near_present s.network r v k half.change.before near_k) in
-    omega (arith, bounds.1, half.told.places, half.change.index.places)
-
--- and their counts have room for it
-pub told_fits : (above : Bool) (opens : Option ℕ → Bool → Bool) (r : Registers) (s : State) (v : ℕ) (start pointed : List Tally) (nodes : List ℕ) (was is : Bool) → IsHalfTold above opens r s v start pointed nodes was is → (k : ℕ) → (list_any (nat_eq k) nodes && asks_for above k v) ≡ true → CanTurn was is (tally_of pointed k)
-told_fits above opens r s v start pointed nodes was is half k listed =
+-- they rise and have places, and the counts of those that ask have room for it
+pub told_ready : (above : Bool) (opens : Option ℕ → Bool → Bool) (r : Registers) (s : State) (v : ℕ) (start pointed : List Tally) (nodes : List ℕ) (was is : Bool) → IsHalfTold above opens r s v start pointed nodes was is → IsStrictlyIncreasing nodes × ((k : ℕ) → list_any (nat_eq k) nodes ≡ true → k < length pointed) × ((k : ℕ) → (list_any (nat_eq k) nodes && asks_for above k v) ≡ true → CanTurn was is (tally_of pointed k))
+told_ready above opens r s v start pointed nodes was is half =
     let c = half.change in
     let net = s.network in
-    let listed_k : near above net v k ≡ true = ap (λ (ns : List ℕ). list_any (nat_eq k) ns && asks_for above k v) (sym half.all) ∙ listed in
-    let has = near_present net r v k c.before (listed_linked net v k (and_parts (list_any (nat_eq k) (neighbours net v)) (asks_for above k v) listed_k).0) in
-    subst (λ b. CanTurn b is (tally_of pointed k)) (sym half.before)
-    (subst (λ b. CanTurn (opens (pointer_of r v) (flag_of r v)) b (tally_of pointed k)) (sym half.now) (can_turn above opens net r s.registers v k start pointed c.before c.now c.alike c.here has listed_k c.few c.index half.told))
+    let listed_present : (k : ℕ) → list_any (nat_eq k) nodes ≡ true → IsTrue (present net k) = λ k listed. near_present net r v k c.before (listed_linked net v k (ap (list_any (nat_eq k)) (sym half.all) ∙ listed)) in (
+      subst IsStrictlyIncreasing (sym half.all) (neighbours_rise net v),
+      λ k listed. let bounds = present_range net k (listed_present k listed) in omega (arith, bounds.1, half.told.places, c.index.places),
+      λ k asks.
+          let listed_k : near above net v k ≡ true = ap (λ (ns : List ℕ). list_any (nat_eq k) ns && asks_for above k v) (sym half.all) ∙ asks in
+          let has = listed_present k (and_parts (list_any (nat_eq k) nodes) (asks_for above k v) asks).0 in
+          subst (λ b. CanTurn b is (tally_of pointed k)) (sym half.before)
+          (subst (λ b. CanTurn (opens (pointer_of r v) (flag_of r v)) b (tally_of pointed k)) (sym half.now) (can_turn above opens net r s.registers v k start pointed c.before c.now c.alike c.here has listed_k c.few c.index half.told)),
+    )
 
 -- then the tallies are those of the state
 pub told_index : (above : Bool) (opens : Option ℕ → Bool → Bool) (r : Registers) (s : State) (v : ℕ) (start pointed : List Tally) (nodes : List ℕ) (was is : Bool) (turned : List Tally) → IsHalfTold above opens r s v start pointed nodes was is → IsTurned (λ k. list_any (nat_eq k) nodes && asks_for above k v) was is pointed turned → IsIndexed above opens s turned

@@ -1,5 +1,5 @@
 -- Presence changes none of the counts, except at a node that joins.
-use Rattle.suitor_index.proofs.Prelude.{◌&&◌, ◌≡◌, ◌≢◌, ℕ, ◌+◌, ◌%◌, ◌≤◌, Bool, true, false, cond, None, Some, IfSome, List, [], ◌∷◌, filter, replicate, set, Option, IsTrue, refl, sym, ap, subst, ◌∙◌, ⊎_elim, arith, count_by, sum_by, range_with_len, cases_eq, false_from_ne_true, true≢false, get_or-replicate, get_or-set_same, get_or-set_other, length-replicate, length-set, Network, IsNetwork, edge, present, linked, neighbours, with_node, State, Registers, IsState, pointer_of, opening_with, suits, is_open, contains-empty, present_other, with_node_is_network, linked_present, neighbours_range, present_range, opening_is_state, Tally, state_of, asks_for, empty_tally, reduced, tally_of, tally_at, name_if, IsIndexOf, IsIndexed}
+use Rattle.suitor_index.proofs.Prelude.{◌&&◌, ◌≡◌, ◌≢◌, ℕ, ◌+◌, ◌%◌, ◌≤◌, Bool, true, false, cond, None, Some, IfSome, List, ◌∷◌, filter, replicate, set, Option, IsTrue, refl, sym, ap, subst, ◌∙◌, ⊎_elim, arith, count_by, sum_by, range_with_len, cases_eq, false_from_ne_true, true≢false, get_or-replicate, get_or-set_same, get_or-set_other, length-replicate, length-set, Network, IsNetwork, edge, present, linked, neighbours, with_node, State, Registers, IsState, pointer_of, opening_with, suits, is_open, contains-empty, present_other, with_node_is_network, linked_present, neighbours_range, present_range, opening_is_state, Tally, state_of, asks_for, empty_tally, reduced, tally_of, tally_at, name_if, IsIndexOf, IsIndexed, []}
 use Rattle.suitor_index.proofs.OpenTargets.{open_is}
 
 -- what a scan of these nodes counts

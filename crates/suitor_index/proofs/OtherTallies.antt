@@ -1,6 +1,7 @@
 -- What one node's registers change in the counts of the others.
-use Rattle.suitor_index.proofs.Prelude.{◌≡◌, ◌≢◌, ℕ, ◌+◌, ◌%◌, ◌≤◌, Bool, true, false, cond, ◌&&◌, List, Option, Some, nat_eq, ⊎_elim, cases_eq, IsTrue, refl, sym, ap, ap₂, ◌∙◌, subst, arith, sum_by, list_any, Network, IsNetwork, linked, neighbours, present, State, Registers, IsState, is_at, points, pointer_of, flag_of, is_open, asks_for, is_reached, linked_back, points_true, suitor_linked, is_at_from_some, Tally, state_of, suits, name_if, reduced, tally_of, tally_at, IsIndexOf, one_if, AddsSuitor, IsRepointed, IsTurned, HasSuitor, HasTallyRoom, CanTurn}
-use Rattle.suitor_index.proofs.NeighbourSums.{near_turn, near_le, near_ones, listed_is_linked}
+use Rattle.suitor_index.proofs.Prelude.{◌≡◌, ◌≢◌, ℕ, ◌+◌, ◌%◌, ◌≤◌, Bool, true, false, cond, ◌&&◌, List, Option, Some, nat_eq, ⊎_elim, cases_eq, IsTrue, refl, sym, ap, ap₂, ◌∙◌, subst, arith, sum_by, list_any, Network, IsNetwork, linked, neighbours, present, State, Registers, IsState, is_at, points, pointer_of, flag_of, is_open, asks_for, is_reached, linked_back, points_true, suitor_linked, is_at_from_some, Tally, state_of, suits, name_if, reduced, tally_of, tally_at, IsIndexOf, one_if, AddsSuitor, IsRepointed, IsTurned, HasSuitor, HasTallyRoom, CanTurn, near_found, is_some, ltb-true}
+use Rattle.suitor_index.proofs.NeighbourSums.{near_turn, near_ones, listed_is_linked}
+use Rattle.suitor_index.proofs.Sums.{count_some}
 use Rattle.suitor_index.proofs.OpenTargets.{open_is}
 
 -- two tables of registers that differ at v alone
@@ -22,7 +23,7 @@ held_at net r v k n good = held (linked net k v) (points r v k) n (λ at. suitor
 -- sums over k's suitors
 suitors_turned : (net : Network) (r q : Registers) (v k : ℕ) (n : ℕ → ℕ) → IsState (state_of net r) → IsState (state_of net q) → AreAlike v r q → IsTrue (present net v) → sum_by (λ x. cond (points q x k) (n x) 0) (neighbours net k) + cond (points r v k) (n v) 0 ≡ sum_by (λ x. cond (points r x k) (n x) 0) (neighbours net k) + cond (points q v k) (n v) 0
 suitors_turned net r q v k n before now alike here =
-    let turn = near_turn net net k v (λ x. cond (points q x k) (n x) 0) (λ x. cond (points r x k) (n x) 0) refl (λ _. refl) here (λ x apart. ap (λ o. cond (linked net k x) (cond (is_at o k) (n x) 0) 0) (sym (alike.pointers x apart))) in
+    let turn = near_turn net net k v (λ x. cond (points q x k) (n x) 0) (λ x. cond (points r x k) (n x) 0) refl here (λ x apart. ap (λ o. cond (linked net k x) (cond (is_at o k) (n x) 0) 0) (sym (alike.pointers x apart))) in
     omega (arith, turn, held_at net r v k (n v) before, held_at net q v k (n v) now)
 
 swap_and : (l a b : Bool) → cond l (one_if (a && b)) 0 ≡ cond b (one_if (l && a)) 0
@@ -48,7 +49,7 @@ tally_turned above opens net r q v k before now alike here =
     let s = state_of net r in
     let u = state_of net q in
     let same : (x : ℕ) → x ≢ v → is_open opens u x ≡ is_open opens s x = λ x apart. ap₂ opens (sym (alike.pointers x apart)) (sym (alike.flags x apart)) in
-    let turn = near_turn net net k v (λ x. cond (asks_for above k x && is_open opens u x) 1 0) (λ x. cond (asks_for above k x && is_open opens s x) 1 0) refl (λ _. refl) here (λ x apart. ap (λ b. cond (linked net k x) (cond (asks_for above k x && b) 1 0) 0) (same x apart)) in
+    let turn = near_turn net net k v (λ x. cond (asks_for above k x && is_open opens u x) 1 0) (λ x. cond (asks_for above k x && is_open opens s x) 1 0) refl here (λ x apart. ap (λ b. cond (linked net k x) (cond (asks_for above k x && b) 1 0) 0) (same x apart)) in
     record {
       suitors = suitors_turned net r q v k (λ x. 1) before now alike here;
       sum = suitors_turned net r q v k (λ x. x) before now alike here;
@@ -100,11 +101,10 @@ tally_small above opens s k few = record {
 -- a node's pointer is counted at its target
 pub has_suitor : (above : Bool) (opens : Option ℕ → Bool → Bool) (net : Network) (r : Registers) (v w : ℕ) (ts : List Tally) → IsState (state_of net r) → IsIndexOf above opens (state_of net r) ts → IsTrue (present net v) → IsTrue (present net w) → pointer_of r v ≡ Some w → HasSuitor (tally_of ts w)
 has_suitor above opens net r v w ts good index here has at =
-    let was = index.counted w has in
     let aims = is_at_from_some (pointer_of r v) w at in
-    let one = near_le net w v (λ x. cond (points r x w) 1 0) here in
-    let held_one = held_at net r v w 1 good ∙ ap (λ b. cond b 1 0) aims in
-    omega (arith, one, held_one, ap (λ (x : Tally). x.suitors) was)
+    let found = near_found net (suits (state_of net r) w) w v good.is_network (suitor_linked (state_of net r) w v good at) aims in
+    let some = ltb-true 0 _ (count_some (suits (state_of net r) w) (neighbours net w) ∙ ap is_some found.1) in
+    omega (arith, some, ap (λ (x : Tally). x.suitors) (index.counted w has))
 
 -- there is room to count it at its new target
 pub has_room : (above : Bool) (opens : Option ℕ → Bool → Bool) (net : Network) (r q : Registers) (v w : ℕ) (start left : List Tally) → IsState (state_of net r) → IsState (state_of net q) → AreAlike v r q → IsTrue (present net v) → IsTrue (present net w) → net.size ≤ 65535 → IsIndexOf above opens (state_of net r) start → AddsSuitor (pointer_of r v) v left start → pointer_of q v ≡ Some w → HasTallyRoom (tally_of left w)
@@ -117,7 +117,7 @@ has_room above opens net r q v w start left before now alike here has few index 
     let low = small.suitors in
     omega (arith, t.suitors, told.suitors w, ap (λ (x : Tally). x.suitors) was, one, low)
 
-turn_step : (was is : Bool) (t before now : Tally) → IsSmall now → t.reached ≡ before.reached → now.reached + cond was 1 0 ≡ before.reached + cond is 1 0 → CanTurn was is t
+pub turn_step : (was is : Bool) (t before now : Tally) → IsSmall now → t.reached ≡ before.reached → now.reached + cond was 1 0 ≡ before.reached + cond is 1 0 → CanTurn was is t
 turn_step true true t before now small same turned = tt
 turn_step false false t before now small same turned = tt
 turn_step true false t before now small same turned = omega (arith, same, turned)

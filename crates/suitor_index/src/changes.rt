@@ -129,8 +129,8 @@ fn unlinked<R: Rules>(tallies: &mut [Tally], net: &NetState, a: Node, b: Node)
     requires has_b { IsTrue (present net.now.state.network b) }
     ensures { IsIndexed R.COURTS_HIGHER_ONLY R.table.opens net.now.state tallies.new }
 {
-    count_end::<R>(tallies, b, a, net, true, false);
     count_end::<R>(tallies, a, b, net, true, false);
+    count_end::<R>(tallies, b, a, net, true, false);
 }
 
 fn joined<R: Rules>(tallies: &mut [Tally], net: &NetState, v: Node)

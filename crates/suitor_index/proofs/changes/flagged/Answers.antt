@@ -1,12 +1,12 @@
 use Rattle.suitor_index.proofs.Prelude.{◌∙◌, ap, subst, pointer, TurnsNoneWith}
-use Rattle.suitor_index.proofs.NodeChanges.{half_flagged, told_rise, told_within, told_fits, told_index}
+use Rattle.suitor_index.proofs.NodeChanges.{half_flagged, told_ready, told_index}
 use Rattle.suitor_index.proofs.TurningNeighbours.{told_none}
 use Rattle.suitor_index.proofs.changes.flagged.Goals as goal
 
 pub turn-requires : goal.turn-requires
 turn-requires g c =
     let half = half_flagged _ _ _ _ _ _ _ c.requires.told _ _ _ _ _ c.neighbours.ensures.all c.pointer.ensures c.pointer-2.ensures c.opens-was_open.ensures c.opens-is_open.ensures in
-    record { rising = told_rise _ _ _ _ _ _ _ _ _ _ half; within = told_within _ _ _ _ _ _ _ _ _ _ half; turns = told_fits _ _ _ _ _ _ _ _ _ _ half }
+    let ready = told_ready _ _ _ _ _ _ _ _ _ _ half in record { rising = ready.0; within = ready.1; turns = ready.2 }
 
 pub returns : goal.returns
 returns g c =

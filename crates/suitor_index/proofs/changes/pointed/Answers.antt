@@ -1,5 +1,5 @@
 use Rattle.suitor_index.proofs.Prelude.{◌∙◌, ap, subst, flag, TurnsNoneWith}
-use Rattle.suitor_index.proofs.NodeChanges.{old_counted, new_fits, new_within, half_pointed, told_rise, told_within, told_fits, told_index}
+use Rattle.suitor_index.proofs.NodeChanges.{old_counted, new_fits, new_within, half_pointed, told_ready, told_index}
 use Rattle.suitor_index.proofs.TurningNeighbours.{told_none}
 use Rattle.suitor_index.proofs.changes.pointed.Goals as goal
 
@@ -15,7 +15,7 @@ court-requires-clause-room g c = new_fits _ _ _ _ _ _ _ c.requires.told _ c.leav
 pub turn-requires : goal.turn-requires
 turn-requires g c =
     let half = half_pointed _ _ _ _ _ _ _ c.requires.told _ _ _ _ _ _ _ c.leave.ensures c.court.ensures c.aim.ensures c.neighbours.ensures.all c.flag-flag.ensures c.opens-was_open.ensures c.opens-is_open.ensures in
-    record { rising = told_rise _ _ _ _ _ _ _ _ _ _ half; within = told_within _ _ _ _ _ _ _ _ _ _ half; turns = told_fits _ _ _ _ _ _ _ _ _ _ half }
+    let ready = told_ready _ _ _ _ _ _ _ _ _ _ half in record { rising = ready.0; within = ready.1; turns = ready.2 }
 
 pub returns : goal.returns
 returns g c =

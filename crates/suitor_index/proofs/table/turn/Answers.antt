@@ -1,5 +1,5 @@
-use Rattle.suitor_index.proofs.Prelude.{◌≡◌, ◌∙◌, ◌&&◌, ℕ, Bool, true, nat_eq, take, sym, ap₂, arith, list_any, or_parts, asks_for}
-use Rattle.suitor_index.proofs.Loops.{turned_both, turned_alike, can_turn_still, not_before, near_more, near_apart, near_there, all_ask_more, asked_so_far, asked_all, none_more, none_asked}
+use Rattle.suitor_index.proofs.Prelude.{not_before, ◌≡◌, ◌∙◌, ◌&&◌, ℕ, Bool, true, nat_eq, take, sym, ap₂, arith, list_any, or_parts, asks_for}
+use Rattle.suitor_index.proofs.Loops.{turned_both, turned_alike, can_turn_still, near_more, near_apart, near_there, all_ask_more, asked_so_far, asked_all, none_more, none_asked}
 use Rattle.suitor_index.proofs.table.turn.Goals as goal
 
 pub turn_at-alone-requires-clause-turns : goal.turn_at-alone-requires-clause-turns

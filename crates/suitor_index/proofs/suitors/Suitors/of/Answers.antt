@@ -1,11 +1,8 @@
-use Rattle.suitor_index.proofs.Prelude.{◌≡◌, ◌+◌, ◌∙◌, ℕ, Some, SomeIff, Option, [], refl, sym, ap, subst, arith, true≢false, present_range, opening_with, State, tally_at, IsIndexed}
+use Rattle.suitor_index.proofs.Prelude.{◌≡◌, ◌+◌, ◌∙◌, refl, sym, ap, arith, true≢false, present_range, opening_with, State, tally_at, IsIndexed, []}
+use Rattle.net_state.proofs.NodeRecords.{some_iff_at}
 use Rattle.suitor_index.proofs.CountedNeighbours.{counted_more, counted_absent}
 use Rattle.suitor_index.proofs.suitors.Suitors.of.Goals as goal
 use Rattle.suitor_index.proofs.suitors.Suitors.of.Goals.{then-has, else-has}
-
--- the name that was made
-named : (o : Option ℕ) (P : Type 0) (x v : ℕ) → SomeIff o P x → o ≡ Some v → v ≡ x
-named o P x v made is = (subst (λ q. SomeIff q P x) is made).1
 
 pub loop-below-init : goal.loop-below-init
 loop-below-init g c =
@@ -24,7 +21,7 @@ loop-below-preserved g c =
     let s : State = c.args.net.now.state in
     let below = c.loop-below.below in
     let v = c.unwrap-v.result in
-    let at : v ≡ below + 1 = named c.new-in-loop-below.result _ (below + 1) v c.new-in-loop-below.ensures c.unwrap-v.ensures in
+    let at : v ≡ below + 1 = some_iff_at c.new-in-loop-below.result _ (below + 1) v c.new-in-loop-below.ensures c.unwrap-v.ensures in
     let so_far = c.loop-below.invariant in
     elim c.if-has.branch [
       | then-has w ↦ rw w.suitors-is (counted_more above opens s below w.place.result w.count_at.result c.loop-below.suitors.tallies.items so_far (omega (arith, c.loop-below-test.true, c.capacity-below-end.ensures.size)) (w.place.ensures.same ∙ at) (w.count_at.ensures ∙ ap (tally_at above opens s) (sym w.place.ensures.same)))
