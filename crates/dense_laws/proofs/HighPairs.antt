@@ -1,6 +1,6 @@
 -- The nodes above a name are in pairs of such nodes: so they stay if a node below moves, and if the name and the
 -- one before it become a pair.
-use Rattle.dense_laws.proofs.Prelude.{◌≡◌, ◌≢◌, ℕ, ◌+◌, ◌<◌, ◌≤◌, ◌⊎◌, inl, inr, Option, None, Some, sym, ap, ◌∙◌, ⊎_elim, arith, cases_eq, cases_lt, none-some, same_Some, State, IsState, pointer, present_range, pointer_linked, linked_present}
+use Rattle.dense_laws.proofs.Prelude.{◌≡◌, ◌≢◌, ℕ, ◌+◌, ◌<◌, ◌≤◌, Option, None, Some, sym, ap, ◌∙◌, ⊎_elim, arith, cases_eq, cases_lt, none-some, same_Some, State, IsState, pointer, present_range, pointer_linked, linked_present}
 
 -- v and another point at each other
 abbrev pub IsPaired : (ℕ → Option ℕ) → ℕ → Type 0

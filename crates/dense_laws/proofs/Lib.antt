@@ -6,11 +6,9 @@ pub mod Moves
 pub mod Starts
 pub mod Falls
 pub mod Runs
-pub mod SilentRuns
 pub mod Plays
 pub mod HighPairs
 pub mod HsuHuangPlays
 pub mod Games
 pub mod Schedule
 pub mod CompleteNetworks
-pub mod Bound

@@ -1,128 +1,85 @@
--- Runs without a disturbance by Hsu and Huang's rules: the dense charge pays for them, and from a trap with
--- four to spare.
-use Rattle.dense_laws.proofs.Prelude.{◌≡◌, ◌≢◌, ℕ, ◌+◌, ◌-◌, ◌*◌, ◌<◌, ◌≤◌, List, [], ◌∷◌, length, refl, sym, ap, subst, inl, inr, ⊎_elim, ◌⊎◌, arith, cases_lt, All-head, All-tail, sum_by-cons, Moved, Event, Reply, Accepted, names, node_count, State, IsState, pointer, hsu_huang, Answers, spent_after, Entry, Moment, Run, answers_keep, runs_end_in_states, moves_of, moves_in, IsUndisturbed, Effect, rests, steps, disturbs, effect, hsu_huang_table, dense_charge}
-use Rattle.dense_laws.proofs.Arithmetic.{falls_on}
-use Rattle.dense_laws.proofs.Moves.{IsAmong, IsTrap}
-use Rattle.dense_laws.proofs.Starts.{lone_is_low, most, not_below, trap_above, trap_or_less}
-use Rattle.dense_laws.proofs.Falls.{among_from, high_of, low_of, charge_is, IsFall, step_falls}
+-- Runs without a disturbance by Hsu and Huang's rules: the dense charge pays for them. At most as many moves as
+-- the bound are made, and a run that is long enough ends silent.
+use Rattle.dense_laws.proofs.Prelude.{◌≡◌, ◌≢◌, ℕ, ◌+◌, ◌-◌, ◌*◌, ◌/◌, ◌<◌, ◌≤◌, List, [], ◌∷◌, length, sym, subst, inl, inr, ⊎_elim, ◌⊎◌, arith, cases_lt, All-head, All-tail, sum_by-cons, Item, Moved, Event, Reply, Accepted, names, node_count, State, IsState, pointer, enabled_names, hsu_huang, IsStep, Answers, spent_after, Entry, Moment, Run, answers_keep, moves_of, moves_in, IsUndisturbed, Effect, rests, steps, disturbs, effect, end_of_path, path_entries, IsPath, hsu_huang_inside, IsDriven, IsBudget, driven_is_quiet, hsu_huang_table, dense_bound, dense_charge}
+use Rattle.dense_laws.proofs.Moves.{IsTrap}
+use Rattle.dense_laws.proofs.Starts.{lone_is_low, trap_or_less}
+use Rattle.dense_laws.proofs.Falls.{among_from, charge_of, charge_is, sides_are, IsFall, step_falls, charge_bounded, trap_charged}
 
--- the two sides fall by twice the moves, and room besides
-abbrev Pays : ℕ → State → ℕ → State → Type 0
-Pays room s moves s' = 2 * moves + high_of s' + low_of s + room ≤ high_of s + low_of s'
+-- what is said of the moves made so far and of the state, and that each step keeps
+abbrev IsKept : (ℕ → State → Type 0) → Type 0
+IsKept P =
+    (k : ℕ) (s : State) (items : List Item) (moves : List Moved) (s' : State) → IsState s → IsStep hsu_huang s items moves s' → P k s → P (k + length moves) s'
 
--- this many moves lead from one state to the other
-record IsPaid (s : State) (moves : ℕ) (s' : State) : Type 0 where
-  lowers : Pays 0 s moves s'
-  in_trap : IsTrap (pointer s) → IsTrap (pointer s') ⊎ Pays 4 s moves s'
-
-still : (s : State) (moves : ℕ) → moves ≡ 0 → IsPaid s moves s
-still s moves none = record { lowers = omega (arith, none); in_trap = λ trap. inl trap }
-
-pays_on : (room a b : ℕ) (s m e : State) → Pays 0 s a m → Pays room m b e → Pays room s (a + b) e
-pays_on room a b s m e first second =
-    falls_on a b room (high_of s) (low_of s) (high_of m) (low_of m) (high_of e) (low_of e) (omega (arith, first)) second
-
-pays_first : (a b : ℕ) (s m e : State) → Pays 4 s a m → Pays 0 m b e → Pays 4 s (a + b) e
-pays_first a b s m e first second =
-    by_sides (high_of s) (low_of s) (high_of m) (low_of m) (high_of e) (low_of e) first second
+answer_keeps : (P : ℕ → State → Type 0) → IsKept P → (k : ℕ) (s : State) → IsState s → (n : ℕ) (event : Event) (reply : Reply) (s' : State) → Answers hsu_huang s n event reply s' → reply ≢ Accepted → P k s → P (k + moves_of reply) s'
+answer_keeps P kept k s good n event reply s' answers calm has = by_effect (effect hsu_huang s n event reply s' answers)
   where
-    by_sides : (hs ls hm lm he le : ℕ) → 2 * a + hm + ls + 4 ≤ hs + lm → 2 * b + he + lm + 0 ≤ hm + le → 2 * (a + b) + he + ls + 4 ≤ hs + le
-    by_sides hs ls hm lm he le first second = omega arith
-
-on : (a b : ℕ) (s m e : State) → IsPaid s a m → IsPaid m b e → IsPaid s (a + b) e
-on a b s m e first second = record {
-  lowers = pays_on 0 a b s m e first.lowers second.lowers;
-  in_trap = λ trap. ⊎_elim
-      (λ kept. ⊎_elim (λ still. inl still) (λ more. inr (pays_on 4 a b s m e first.lowers more)) (second.in_trap kept))
-      (λ more. inr (pays_first a b s m e more second.lowers))
-      (first.in_trap trap);
-}
-
-step_paid : (s s' : State) (moves : List Moved) → IsFall s s' moves → IsPaid s (length moves) s'
-step_paid s s' moves fall = record {
-  lowers = by_one 0 (high_of s) (low_of s) (high_of s') (low_of s') fall.one fall.lowers;
-  in_trap = λ trap. ⊎_elim (λ kept. inl kept) (λ falls. inr (by_one 4 (high_of s) (low_of s) (high_of s') (low_of s') fall.one falls)) (fall.in_trap trap);
-}
-  where
-    by_one : (room hs ls hm lm : ℕ) → length moves ≡ 1 → hm + ls + (2 + room) ≤ hs + lm → 2 * length moves + hm + ls + room ≤ hs + lm
-    by_one room hs ls hm lm one falls = omega (arith, one, falls)
-
-answer_paid : (s : State) → IsState s → (n : ℕ) (event : Event) (reply : Reply) (s' : State) → Answers hsu_huang s n event reply s' → reply ≢ Accepted → IsPaid s (moves_of reply) s'
-answer_paid s good n event reply s' answers calm = by_effect (effect hsu_huang s n event reply s' answers)
-  where
-    by_effect : Effect hsu_huang s reply s' → IsPaid s (moves_of reply) s'
-    by_effect (rests same none keeps) = subst (λ (u : State). IsPaid s (moves_of reply) u) (sym same) (still s (moves_of reply) none)
-    by_effect (steps items moves is step) = subst (λ (a : ℕ). IsPaid s a s') (sym (ap moves_of is)) (step_paid s s' moves (step_falls s items moves s' good step))
+    by_effect : Effect hsu_huang s reply s' → P (k + moves_of reply) s'
+    by_effect (rests same none keeps) = subst (λ (j : ℕ). P j s') (omega (arith, none)) (subst (P k) (sym same) has)
+    by_effect (steps items moves is step) = subst (λ (r : Reply). P (k + moves_of r) s') (sym is) (kept k s items moves s' good step has)
     by_effect (disturbs is) = absurd (calm is)
 
-run_paid : (start : Moment) → IsState start.state → (log : List Entry) (end : Moment) → Run hsu_huang start log end → IsUndisturbed log → IsPaid start.state (moves_in log) end.state
-run_paid start good [] end run calm = subst (λ (m : Moment). IsPaid start.state 0 m.state) (sym run) (still start.state 0 refl)
-run_paid start good (entry ∷ log) end (next, answers, run) calm =
-    let first = answer_paid start.state good start.spent entry.0 entry.1 next answers (All-head (λ e. e.1 ≢ Accepted) entry log calm) in
-    let rest = run_paid (record { state = next; spent = spent_after start.spent entry.1 }) (answers_keep hsu_huang hsu_huang_table start.state good start.spent entry.0 entry.1 next answers) log end run (All-tail (λ e. e.1 ≢ Accepted) entry log calm) in
-    subst (λ (a : ℕ). IsPaid start.state a end.state) (sym (sum_by-cons (λ (e : Entry). moves_of e.1) entry log)) (on (moves_of entry.1) (moves_in log) start.state next end.state first rest)
-
-end_state : (start : Moment) → IsState start.state → (log : List Entry) (end : Moment) → Run hsu_huang start log end → IsState end.state
-end_state start good log end run = runs_end_in_states hsu_huang hsu_huang_table start good log end run
+-- so a run keeps it
+run_keeps : (P : ℕ → State → Type 0) → IsKept P → (k : ℕ) (start : Moment) → IsState start.state → (log : List Entry) (end : Moment) → Run hsu_huang start log end → IsUndisturbed log → P k start.state → P (k + moves_in log) end.state
+run_keeps P kept k start good [] end run calm has = subst (λ (j : ℕ). P j end.state) (omega arith) (subst (λ (m : Moment). P k m.state) (sym run) has)
+run_keeps P kept k start good (entry ∷ log) end (next, answers, run) calm has =
+    let first = answer_keeps P kept k start.state good start.spent entry.0 entry.1 next answers (All-head (λ e. e.1 ≢ Accepted) entry log calm) has in
+    let whole = sum_by-cons (λ (e : Entry). moves_of e.1) entry log in
+    subst (λ (j : ℕ). P j end.state) (omega (arith, whole)) (run_keeps P kept (k + moves_of entry.1) (record { state = next; spent = spent_after start.spent entry.1 })
+    (answers_keep hsu_huang hsu_huang_table start.state good start.spent entry.0 entry.1 next answers) log end run (All-tail (λ e. e.1 ≢ Accepted) entry log calm) first)
 
 -- the moves, and the charge that is left, are paid by the charge at the start
 pub dense_moves_are_paid : (start : Moment) → IsState start.state → (log : List Entry) (end : Moment) → Run hsu_huang start log end → IsUndisturbed log → 2 * moves_in log + dense_charge end.state ≤ dense_charge start.state
 dense_moves_are_paid start good log end run calm =
-    by_sides (dense_charge start.state) (dense_charge end.state) (high_of start.state) (low_of start.state) (high_of end.state) (low_of end.state)
-    (charge_is start.state good) (charge_is end.state (end_state start good log end run)) (run_paid start good log end run calm).lowers
-  where
-    by_sides : (s e hs ls he le : ℕ) → s + ls ≡ hs → e + le ≡ he → 2 * moves_in log + he + ls + 0 ≤ hs + le → 2 * moves_in log + e ≤ s
-    by_sides s e hs ls he le before after paid = omega (arith, before, after, paid)
+    let paid = run_keeps (λ k s. 2 * k + charge_of s ≤ charge_of start.state)
+    (λ k s items moves s' good step has. let fall = step_falls s items moves s' good step in omega (arith, fall.one, fall.lowers, has))
+    0 start good log end run calm (omega arith) in
+    omega (arith, paid, charge_is start.state, charge_is end.state)
 
--- a run without a disturbance has at most half of n² + 2n - 4 moves if there are at least two nodes
-pub dense_moves_are_few : (start : Moment) → IsState start.state → 2 ≤ node_count start.state.network → (log : List Entry) (end : Moment) → Run hsu_huang start log end → IsUndisturbed log → 2 * moves_in log + 4 ≤ node_count start.state.network * node_count start.state.network + 2 * node_count start.state.network
-dense_moves_are_few start good two log end run calm =
+-- ---- a budget
+
+-- at most n moves can still be made: the charge is at most 2n + 1, or in a trap at most four more
+abbrev pub HasMovesWithin : State → ℕ → Type 0
+HasMovesWithin s n = (IsTrap (pointer s) × (charge_of s ≤ 2 * n + 5)) ⊎ (charge_of s ≤ 2 * n + 1)
+
+dense_spends : (s s' : State) (n : ℕ) (moves : List Moved) → IsFall s s' moves → HasMovesWithin s n → (length moves ≤ n) × HasMovesWithin s' (n - length moves)
+dense_spends s s' n moves fall within = grind (arith, trap_charged)
+
+more_within : (s : State) (n m : ℕ) → HasMovesWithin s n → n ≤ m → HasMovesWithin s m
+more_within s n m within le = grind arith
+
+pub dense_budget : IsBudget hsu_huang HasMovesWithin
+dense_budget = record {
+  spends = λ s n items moves s' good within step. dense_spends s s' n moves (step_falls s items moves s' good step) within;
+  more = more_within;
+}
+
+-- from any state as many as half of n² + 2n - 4 are enough
+within_at : (s : State) → IsState s → (long : ℕ) → node_count s.network * node_count s.network + 2 * node_count s.network ≤ 2 * long + 5 → HasMovesWithin s long
+within_at s good long enough =
     ⊎_elim
-    (λ trap. ⊎_elim
-    (λ kept. by_end (high_of start.state) (low_of start.state) (high_of end.state) (low_of end.state) (node_count start.state.network * node_count start.state.network + 2 * node_count start.state.network) (trap_above (pointer end.state) (names end.state.network) ends kept) paid.lowers bound)
-    (λ more. by_room (high_of start.state) (low_of start.state) (high_of end.state) (low_of end.state) (node_count start.state.network * node_count start.state.network + 2 * node_count start.state.network) below more bound)
-    (paid.in_trap trap))
-    (λ less. by_start (high_of start.state) (low_of start.state) (high_of end.state) (low_of end.state) (node_count start.state.network * node_count start.state.network + 2 * node_count start.state.network) below paid.lowers less)
-    (trap_or_less (pointer start.state) (names start.state.network) (among_from start.state good) two)
-  where
-    paid : IsPaid start.state (moves_in log) end.state
-    paid = run_paid start good log end run calm
-
-    ends : IsAmong (pointer end.state) (names end.state.network)
-    ends = among_from end.state (end_state start good log end run)
-
-    below : low_of end.state ≤ high_of end.state
-    below = not_below (pointer end.state) (names end.state.network) ends
-
-    bound : high_of start.state ≤ node_count start.state.network * node_count start.state.network + 2 * node_count start.state.network + low_of start.state
-    bound = most (pointer start.state) (names start.state.network)
-
-    by_end : (hs ls he le q : ℕ) → le + 4 ≤ he → 2 * moves_in log + he + ls + 0 ≤ hs + le → hs ≤ q + ls → 2 * moves_in log + 4 ≤ q
-    by_end hs ls he le q above paid bound = omega (arith, above, paid, bound)
-
-    by_room : (hs ls he le q : ℕ) → le ≤ he → 2 * moves_in log + he + ls + 4 ≤ hs + le → hs ≤ q + ls → 2 * moves_in log + 4 ≤ q
-    by_room hs ls he le q below paid bound = omega (arith, below, paid, bound)
-
-    by_start : (hs ls he le q : ℕ) → le ≤ he → 2 * moves_in log + he + ls + 0 ≤ hs + le → hs + 4 ≤ q + ls → 2 * moves_in log + 4 ≤ q
-    by_start hs ls he le q below paid less = omega (arith, below, paid, less)
-
--- one node alone never moves
-lone_stays : (start : Moment) → IsState start.state → node_count start.state.network < 2 → (log : List Entry) (end : Moment) → Run hsu_huang start log end → IsUndisturbed log → moves_in log ≡ 0
-lone_stays start good few log end run calm =
-    let paid = dense_moves_are_paid start good log end run calm in
-    let low = lone_is_low (pointer start.state) (names start.state.network) (among_from start.state good) few in
-    by_sides (dense_charge start.state) (dense_charge end.state) (high_of start.state) (low_of start.state) (charge_is start.state good) low paid
-  where
-    by_sides : (s e hs ls : ℕ) → s + ls ≡ hs → hs ≤ ls + 1 → 2 * moves_in log + e ≤ s → moves_in log ≡ 0
-    by_sides s e hs ls is low paid = omega (arith, is, low, paid)
+    (λ (few : node_count s.network < 2). inr (omega (arith, sides_are s good, lone_is_low (pointer s) (names s.network) (among_from s good) few)))
+    (λ (two : 2 ≤ node_count s.network). ⊎_elim
+    (λ trap. inl (trap, omega (arith, charge_bounded s good, enough)))
+    (λ less. inr (omega (arith, sides_are s good, less, enough)))
+    (trap_or_less (pointer s) (names s.network) (among_from s good) two))
+    (cases_lt (node_count s.network) 2)
 
 -- n² + 2n - 4, and 0 for one node or none
 pub moves_are_few : (start : Moment) → IsState start.state → (log : List Entry) (end : Moment) → Run hsu_huang start log end → IsUndisturbed log → 2 * moves_in log ≤ node_count start.state.network * node_count start.state.network + 2 * node_count start.state.network - 4
 moves_are_few start good log end run calm =
-    ⊎_elim
-    (λ (few : node_count start.state.network < 2). let none = lone_stays start good few log end run calm in omega (arith, none))
-    (λ (two : 2 ≤ node_count start.state.network). let most = dense_moves_are_few start good two log end run calm in by_most (node_count start.state.network * node_count start.state.network + 2 * node_count start.state.network) most)
-    (cases_lt (node_count start.state.network) 2)
+    let long = (node_count start.state.network * node_count start.state.network + 2 * node_count start.state.network - 4) / 2 in
+    let most = run_keeps (λ k s. (k ≤ long) × HasMovesWithin s (long - k)) (λ k s items moves s' good step has. spends k s moves s' long has.0 (dense_budget.spends s (long - k) items moves s' good has.1 step))
+    0 start good log end run calm (omega arith, more_within start.state long (long - 0) (within_at start.state good long (omega arith)) (omega arith)) in
+    omega (arith, most.0)
   where
-    by_most : (q : ℕ) → 2 * moves_in log + 4 ≤ q → 2 * moves_in log ≤ q - 4
-    by_most q h = omega (arith, h)
+    spends : (k : ℕ) (s : State) (moves : List Moved) (s' : State) (long : ℕ) → k ≤ long → (length moves ≤ long - k) × HasMovesWithin s' (long - k - length moves) → (k + length moves ≤ long) × HasMovesWithin s' (long - (k + length moves))
+    spends k s moves s' long few has = (omega (arith, few, has.0), more_within s' (long - k - length moves) (long - (k + length moves)) has.1 (omega arith))
+
+-- the same as a number
+pub within_bound : (start : Moment) → IsState start.state → (log : List Entry) (end : Moment) → Run hsu_huang start log end → IsUndisturbed log → moves_in log ≤ dense_bound (node_count start.state.network)
+within_bound start good log end run calm = omega (arith, moves_are_few start good log end run calm)
+
+-- a driven run of as many entries ends silent
+pub enough_turns_end_silent : (start : Moment) → IsState start.state → (path : List (Entry × State)) → IsPath hsu_huang start path → IsUndisturbed (path_entries path) → IsDriven hsu_huang start.state path → node_count start.state.network * node_count start.state.network + 2 * node_count start.state.network ≤ 2 * length path + 5 → enabled_names hsu_huang (end_of_path start.state path) ≡ []
+enough_turns_end_silent start good path is calm driven enough =
+    driven_is_quiet hsu_huang HasMovesWithin hsu_huang_table hsu_huang_inside dense_budget start good path is calm driven (within_at start.state good (length path) enough)

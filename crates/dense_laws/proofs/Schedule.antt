@@ -1,7 +1,7 @@
 -- A run by Hsu and Huang's rules with most moves and with most rounds, in a complete network. Of m nodes that
 -- point at a node of a pair all leave, in one round. Then all but the last court the last, and it takes its
 -- neighbour by name, in a second round; and the m - 2 others point at it. A single node leaves, in one round.
-use Rattle.dense_laws.proofs.Prelude.{◌≡◌, ℕ, zero, suc, ◌+◌, ◌*◌, ◌<◌, ◌≤◌, ◌⊎◌, inl, inr, Option, None, Some, IsTrue, sym, ap, ◌∙◌, subst, ⊎_elim, arith, cases_eq, cases_lt, none-some, same_Some, Network, linked, present, State, IsState, pointer, flag, present_range, pointer_linked, linked_present, hsu_huang, enabled_names, IsIn}
+use Rattle.dense_laws.proofs.Prelude.{◌≡◌, ℕ, zero, suc, ◌+◌, ◌*◌, ◌<◌, ◌≤◌, ◌⊎◌, inl, inr, Option, None, Some, IsTrue, ap, ◌∙◌, subst, ⊎_elim, arith, cases_eq, cases_lt, Network, linked, present, State, IsState, pointer, flag, present_range, pointer_linked, linked_present, hsu_huang, enabled_names, IsIn}
 use Rattle.dense_laws.proofs.HighPairs.{points_low, AreHigh, high_still, high_with_pair}
 use Rattle.dense_laws.proofs.Plays.{IsPlayed, then}
 use Rattle.dense_laws.proofs.HsuHuangPlays.{may_take, may_court, may_leave, paired_idle, hoping_idle}

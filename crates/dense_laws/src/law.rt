@@ -26,6 +26,7 @@ pub fn dense_charge_falls()
 /// Twice a run's moves plus the dense charge at its end are at most the dense charge at its start.
 ///
 /// The run has no disturbance.
+#[tactic(auto, using(crate::proofs::Runs::dense_moves_are_paid))]
 pub fn dense_moves_are_paid()
     ensures { (start : Moment) → IsState start.state → (log : List Entry) (end : Moment) → Run hsu_huang start log end → IsUndisturbed log
         → 2 * moves_in log + dense_charge end.state ≤ dense_charge start.state }
@@ -34,6 +35,7 @@ pub fn dense_moves_are_paid()
 /// Between two disturbances n nodes make at most n²/2 + n - 2 moves, rounded down; 0 if n is 0 or 1.
 ///
 /// Holds from any state, whatever the edges and whatever the daemon chooses.
+#[tactic(auto, using(crate::proofs::Runs::moves_are_few))]
 pub fn moves_are_few()
     ensures { (start : Moment) → IsState start.state → (log : List Entry) (end : Moment) → Run hsu_huang start log end → IsUndisturbed log
         → 2 * moves_in log ≤ node_count start.state.network * node_count start.state.network + 2 * node_count start.state.network - 4 }
@@ -42,6 +44,7 @@ pub fn moves_are_few()
 /// A driven run without a disturbance ends silent if it has n²/2 + n - 2 entries, rounded down.
 ///
 /// A run is driven if each entry moves a node or is made while no rule is enabled.
+#[tactic(auto, using(crate::proofs::Runs::enough_turns_end_silent))]
 pub fn enough_turns_end_silent()
     ensures { (start : Moment) → IsState start.state → (path : List (Entry × State)) → IsPath hsu_huang start path → IsUndisturbed (path_entries path)
         → IsDriven hsu_huang start.state path
@@ -57,6 +60,7 @@ pub fn bound_is_reached()
 {}
 
 /// The bound of `moves_are_few` as one number: n²/2 + n - 2 rounded down, and 0 if n is 0 or 1.
+#[tactic(auto, using(crate::proofs::Runs::within_bound))]
 pub fn dense_bound_holds()
     ensures { (start : Moment) → IsState start.state → (log : List Entry) (end : Moment) → Run hsu_huang start log end → IsUndisturbed log
         → moves_in log ≤ dense_bound (node_count start.state.network) }

@@ -21,6 +21,7 @@ ghost use Rattle.round_laws.specs.Stamps.{cuts_in, round_reached};
 ///
 /// More precisely: at most as many rounds as nodes are unmarried at the start. Holds from any state, whatever
 /// the edges and whatever the daemon chooses.
+#[tactic(auto, using(crate::proofs::HsuHuang::rounds_are_paid, crate::proofs::HsuHuang::rounds_are_few, crate::proofs::HsuHuang::rounds_end_silent))]
 pub fn hsu_huang_rounds_are_few()
     ensures unmarried { (start : Moment) → IsState start.state → (log : List Entry) (end : Moment) → Run hsu_huang start log end → IsUndisturbed log
         → rounds_in hsu_huang start.state log ≤ unmarried_nodes start.state }
@@ -41,6 +42,7 @@ pub fn hsu_huang_rounds_are_reached()
 ///
 /// If u nodes are unmarried at the start: at most 2u + 3 rounds, and 2u + 2 if u is odd. Holds from any state,
 /// whatever the edges, and however many nodes the daemon lets move at once.
+#[tactic(auto, using(crate::proofs::Manne::rounds_are_paid, crate::proofs::Manne::rounds_are_few, crate::proofs::Manne::rounds_end_silent))]
 pub fn manne_rounds_are_few()
     ensures unmarried { (start : Moment) → IsState start.state → (log : List Entry) (end : Moment) → Run manne start log end → IsUndisturbed log
         → rounds_in manne start.state log ≤ unmarried_nodes start.state + 2 * (unmarried_nodes start.state / 2) + 3 }
@@ -61,6 +63,7 @@ pub fn manne_rounds_are_reached()
 ///
 /// A piece is whole if each node that is enabled at its start moves in it, or is not enabled in some state after
 /// one of its entries. Holds for any table of rules.
+#[tactic(auto, using(crate::proofs::Pieces::rounds_are_pieces, crate::proofs::Pieces::no_more_pieces))]
 pub fn rounds_are_pieces()
     ensures cut { (t : RuleTable) (s : State) (log : List Entry) → IsUndisturbed log → IsCut t s log (rounds_in t s log) }
     ensures most { (t : RuleTable) (s : State) (log : List Entry) (count : ℕ) → IsCut t s log count → count ≤ rounds_in t s log }
@@ -71,6 +74,7 @@ pub fn rounds_are_pieces()
 /// In round 1 all stamps are 0. A step changes only the stamps of its movers and of nodes that become enabled;
 /// a new round changes none. An accepted disturbance begins a new round, and changes none either. Holds for any
 /// table of rules.
+#[tactic(auto, using(crate::proofs::Stamps::rounds_are_stamped, crate::proofs::Stamps::undisturbed_rounds_are_stamped))]
 pub fn rounds_are_stamped()
     ensures undisturbed { (t : RuleTable) (s : State) (log : List Entry) → IsUndisturbed log → round_reached t s log ≡ rounds_in t s log + 1 }
     ensures disturbed { (t : RuleTable) (s : State) (log : List Entry) → round_reached t s log ≡ rounds_in t s log + cuts_in log + 1 }
@@ -79,6 +83,7 @@ pub fn rounds_are_stamped()
 /// A count that is kept entry by entry is the rounds of the entries since the last accepted disturbance.
 ///
 /// Without a disturbance it is the rounds since counting began. Holds for any table of rules.
+#[tactic(auto, using(crate::proofs::RoundCounts::counted_whole, crate::proofs::RoundCounts::counted_since))]
 pub fn rounds_are_counted()
     ensures whole { (t : RuleTable) (s : State) (log : List Entry) → IsUndisturbed log → (count_of_log t s log).rounds ≡ rounds_in t s log }
     ensures since { (t : RuleTable) (s : State) (before : List Entry) (event : Event) (log : List Entry) (count : RoundCount) → IsUndisturbed log
