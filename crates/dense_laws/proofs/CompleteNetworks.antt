@@ -3,7 +3,7 @@ use Rattle.dense_laws.proofs.Prelude.{◌≡◌, ℕ, zero, suc, ◌+◌, ◌*�
 use Rattle.std.proofs.Common.{map as list_map}
 use Rattle.std.specs.FinMap as map
 use Rattle.dense_laws.proofs.Games.{IsLong, Long, long_game}
-use Rattle.dense_laws.proofs.Schedule.{IsComplete, IsCycle, from_cycle, from_null_two}
+use Rattle.dense_laws.proofs.Schedule.{IsAt, IsComplete, IsCycle, from_cycle, from_null_two}
 
 -- v is linked to 1 .. j
 abbrev joined : Network → ℕ → ℕ → Network
@@ -146,12 +146,11 @@ cycle_is_state n two = record {
   flagged_present = λ v h. absurd (true≢false (sym h ∙ blank_flag (n + 1) v));
 }
 
-pub cycle_is_cycle : (n : ℕ) → 2 ≤ n → IsCycle n (cycle n)
+pub cycle_is_cycle : (n : ℕ) → 2 ≤ n → IsAt n (λ p f. IsCycle n p) (cycle n)
 cycle_is_cycle n two = record {
   good = cycle_is_state n two;
   complete = up_to_is_complete n;
-  last = cycle_last n (omega (arith, two));
-  rest = λ v low high. cycle_rest n v low high;
+  shape = record { last = cycle_last n (omega (arith, two)); rest = cycle_rest n };
 }
 
 -- ---- the bound is reached

@@ -1,6 +1,6 @@
 -- What may be said of a run, move by move from its end: how many moves it has, and how many rounds. A round is
 -- played as a row of moves, each of the next node.
-use Rattle.dense_laws.proofs.Prelude.{◌≡◌, ◌≢◌, ℕ, zero, suc, ◌+◌, ◌-◌, ◌*◌, ◌<◌, ◌≤◌, Bool, true, false, cond, List, [], ◌∷◌, Option, is_some, IsTrue, refl, sym, ap, ◌∙◌, subst, inl, inr, filter, arith, find_passes, some_is, acts, All-cons, All-nil, sum_by-cons, Act, Step, Accepted, Moves, present, names, State, rule_at, enabled_names, hsu_huang, Entry, Moment, Run, names_present, IsIn, moves_of, moves_in, IsUndisturbed}
+use Rattle.dense_laws.proofs.Prelude.{◌≡◌, ◌≢◌, ℕ, zero, suc, ◌+◌, ◌*◌, ◌<◌, ◌≤◌, Bool, true, false, cond, List, [], ◌∷◌, Option, is_some, IsTrue, refl, sym, ap, ◌∙◌, subst, inl, inr, ◌⊎◌, cases_eq, filter, arith, find_passes, some_is, acts, All-cons, All-nil, sum_by-cons, Act, Step, Accepted, Moves, present, names, State, rule_at, enabled_names, hsu_huang, Entry, Moment, Run, names_present, IsIn, moves_of, moves_in, IsUndisturbed}
 use Rattle.rule_machine.specs.RuleTable.{RuleTable}
 use Rattle.dense_laws.proofs.Plays.{IsPlayed, then}
 
@@ -25,9 +25,12 @@ enabled_is t s v there =
 abbrev pub anyone : ℕ → Type 0
 anyone v = Unit {0}
 
--- those after j, up to m
-abbrev pub Between : ℕ → ℕ → ℕ → Type 0
-Between j m v = (j < v) × (v ≤ m)
+-- those after j, up to b, and w
+abbrev pub To : ℕ → ℕ → ℕ → ℕ → Type 0
+To j b w v = ((j < v) × (v ≤ b)) ⊎ (v ≡ w)
+
+pub to_all : (j b w v : ℕ) → j < v → v ≤ w → w ≡ b + 1 → To j b w v
+to_all j b w v low high e = grind (arith, cases_eq v w)
 
 -- Game spent s todo q k speaks of a run from s, where `spent` moves were made before: q is at most twice its moves
 -- plus one, and it completes k rounds if, in s, the pending nodes are among `todo`.
@@ -55,25 +58,26 @@ module _ (t : RuleTable) (Game : ℕ → State → (ℕ → Type 0) → ℕ → 
   turn_ends s v Then q k todo turn none rest spent =
       game.ends s v turn.target turn.value turn.played spent q k todo none (rest (spent + 1) (then s turn.played.m) turn.next)
 
-  -- the nodes from j + 1 to m move one after another, and the round ends
-  pub row : (m : ℕ) (In : ℕ → State → Type 0) → ((j : ℕ) (s : State) → j < m → In j s → IsTurn t s (j + 1) (In (j + 1))) → (q k : ℕ) → ((spent : ℕ) (s : State) → In m s → Game spent s anyone q k) → (r j : ℕ) → j + suc r ≡ m → (spent : ℕ) (s : State) → In j s → Game spent s (Between j m) (q + 2 * suc r) (k + 1)
-  row m In one q k rest zero j e spent s it =
-      game.less spent s (Between j m) (q + 2) (q + 2 * suc zero) (k + 1) (k + 1) (omega arith) (omega arith)
-      (turn_ends s (j + 1) (In (j + 1)) q k (Between j m) (one j s (omega (arith, e)) it)
-      (λ u to apart. let low = to.0 in let high = to.1 in absurd (omega (arith, e, low, high, apart)))
-      (λ spent u next. rest spent u (subst (λ x. In x u) (let is : j + 1 ≡ m = omega (arith, e) in is) next)) spent)
-  row m In one q k rest (suc r) j e spent s it =
-      game.less spent s (Between j m) (q + 2 * suc r + 2) (q + 2 * suc (suc r)) (k + 1) (k + 1) (omega arith) (omega arith)
-      (turn_on s (j + 1) (In (j + 1)) (q + 2 * suc r) (k + 1) (Between j m) (Between (j + 1) m) (one j s (omega (arith, e)) it)
-      (λ u to apart. let low = to.0 in (omega (arith, low, apart), to.1))
-      (row m In one q k rest r (j + 1) (omega (arith, e))) spent)
+  -- the nodes from j + 1 to b move one after another, then w does, and the round ends
+  pub row : (b w : ℕ) (In : ℕ → State → Type 0) (Then : State → Type 0) → ((j : ℕ) (s : State) → j < b → In j s → IsTurn t s (j + 1) (In (j + 1))) → ((s : State) → In b s → IsTurn t s w Then) → (q k : ℕ) → ((spent : ℕ) (s : State) → Then s → Game spent s anyone q k) → (r j : ℕ) → j + r ≡ b → (spent : ℕ) (s : State) → In j s → Game spent s (To j b w) (q + 2 * r + 2) (k + 1)
+  row b w In Then one last q k rest zero j e spent s it =
+      game.less spent s (To j b w) (q + 2) (q + 2 * zero + 2) (k + 1) (k + 1) (omega arith) (omega arith)
+      (turn_ends s w Then q k (To j b w) (last s (subst (λ x. In x s) (let is : j ≡ b = omega (arith, e) in is) it)) (λ u to apart. to_none j b w u to apart e) rest spent)
+    where
+      to_none : (j b w u : ℕ) → To j b w u → (u ≡ w → ⊥) → j + 0 ≡ b → ⊥
+      to_none j b w u to apart e = grind arith
+  row b w In Then one last q k rest (suc r) j e spent s it =
+      game.less spent s (To j b w) (q + 2 * r + 2 + 2) (q + 2 * suc r + 2) (k + 1) (k + 1) (omega arith) (omega arith)
+      (turn_on s (j + 1) (In (j + 1)) (q + 2 * r + 2) (k + 1) (To j b w) (To (j + 1) b w) (one j s (omega (arith, e)) it) (λ u to apart. to_next j b w u to apart)
+      (row b w In Then one last q k rest r (j + 1) (omega (arith, e))) spent)
+    where
+      to_next : (j b w u : ℕ) → To j b w u → (u ≡ j + 1 → ⊥) → To (j + 1) b w u
+      to_next j b w u to apart = grind arith
 
-  -- a round in which the nodes from 1 to m move, and no others are enabled
-  pub round : (m : ℕ) (In : ℕ → State → Type 0) → 1 ≤ m → ((j : ℕ) (s : State) → j < m → In j s → IsTurn t s (j + 1) (In (j + 1))) → ((s : State) (v : ℕ) → In 0 s → IsIn v (enabled_names t s) → Between 0 m v) → (q k : ℕ) → ((spent : ℕ) (s : State) → In m s → Game spent s anyone q k) → (spent : ℕ) (s : State) → In 0 s → Game spent s anyone (q + 2 * m) (k + 1)
-  round m In some one within q k rest spent s it =
-      game.among spent s anyone (Between 0 m) (q + 2 * m) (k + 1) (λ v there all. within s v it there)
-      (game.less spent s (Between 0 m) (q + 2 * suc (m - 1)) (q + 2 * m) (k + 1) (k + 1) (omega (arith, some)) (omega arith)
-      (row m In one q k rest (m - 1) 0 (omega (arith, some)) spent s it))
+  -- a round in which these nodes move, and no others are enabled
+  pub round : (j r b w : ℕ) (In : ℕ → State → Type 0) (Then : State → Type 0) → j + r ≡ b → ((j : ℕ) (s : State) → j < b → In j s → IsTurn t s (j + 1) (In (j + 1))) → ((s : State) → In b s → IsTurn t s w Then) → ((s : State) (v : ℕ) → In j s → IsIn v (enabled_names t s) → To j b w v) → (q k : ℕ) → ((spent : ℕ) (s : State) → Then s → Game spent s anyone q k) → (spent : ℕ) (s : State) → In j s → Game spent s anyone (q + 2 * r + 2) (k + 1)
+  round j r b w In Then e one last within q k rest spent s it =
+      game.among spent s anyone (To j b w) (q + 2 * r + 2) (k + 1) (λ v there all. within s v it there) (row b w In Then one last q k rest r j e spent s it)
 
 -- ---- moves alone
 

@@ -21,8 +21,8 @@ pub record AreHigh (n m : ℕ) (p : ℕ → Option ℕ) : Type 0 where
   pub above : (v u : ℕ) → m < v → p v ≡ Some u → m < u
   pub wed : (v : ℕ) → m < v → v ≤ n → IsPaired p v
 
--- the pointers of all nodes but v are the same
-abbrev pub OthersKeep : (ℕ → Option ℕ) → (ℕ → Option ℕ) → ℕ → Type 0
+-- the pointers, or flags, of all nodes but v are the same
+abbrev pub OthersKeep : {X : Type 0} → (ℕ → X) → (ℕ → X) → ℕ → Type 0
 OthersKeep p p' v = (u : ℕ) → (u ≡ v → ⊥) → p' u ≡ p u
 
 -- a move of a node up to m leaves them so

@@ -8,6 +8,7 @@ use Rattle.round_laws.proofs.Prelude.{manne}
 use Rattle.round_laws.proofs.Manne.{rounds_are_few}
 use Rattle.round_laws.proofs.Plays.{reached}
 use Rattle.dense_laws.proofs.CompleteNetworks.{up_to, up_to_good, up_to_size, up_to_is_complete, complete_count}
+use Rattle.dense_laws.proofs.Schedule.{IsAt}
 use Rattle.round_laws.proofs.ManneSchedule.{IsRaw, from_raw}
 use Rattle.round_laws.specs.LongRuns.{HasRun}
 
@@ -46,13 +47,11 @@ raw_is_state n = record {
   flagged_present = λ v on. raw_flagged n v on;
 }
 
-raw_begins : (n : ℕ) → IsRaw n 0 (raw n)
+raw_begins : (n : ℕ) → IsAt n (IsRaw n 0) (raw n)
 raw_begins n = record {
   good = raw_is_state n;
   complete = up_to_is_complete n;
-  null = raw_null n;
-  unset = λ v low high. absurd (omega (arith, low, high));
-  set = λ v low high. raw_within n v high ∙ le-leb 1 v (omega (arith, low));
+  shape = record { null = raw_null n; unset = λ v low high. absurd (omega (arith, low, high)); set = λ v low high. raw_within n v high ∙ le-leb 1 v (omega (arith, low)) };
 }
 
 pub bound_is_reached : (n : ℕ) → HasRun manne n (n + 2 * (n / 2))
