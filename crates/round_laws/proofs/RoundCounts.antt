@@ -1,17 +1,11 @@
 -- A count is the number of rounds of the entries since it began.
-use Rattle.round_laws.proofs.Prelude.{◌≡◌, ◌≢◌, ℕ, ◌+◌, List, [], ◌∷◌, ◌++◌, refl, sym, ap, ◌∙◌, arith, All-head, All-tail, Event, Reply, Accepted, Refused, Moves, Shown, EnabledAre, Pairs, Counts, State, RuleTable, Entry, followed, IsUndisturbed, rounds_by, rounds_from, rounds_in}
+use Rattle.round_laws.proofs.Prelude.{◌≡◌, ◌≢◌, ◌+◌, List, [], ◌∷◌, ◌++◌, refl, sym, ap, ◌∙◌, arith, All-head, All-tail, Event, Reply, Accepted, State, RuleTable, Entry, followed, IsUndisturbed, rounds_by, rounds_from, rounds_in}
 use Rattle.round_laws.specs.Pieces.{state_from}
 use Rattle.round_laws.specs.RoundCounts.{RoundCount, count_of_log, first_count, last_count, next_count}
 
 -- an entry that is no disturbance adds what it completes
 pub next_is : (t : RuleTable) (reply : Reply) (s : State) (c : RoundCount) → reply ≢ Accepted → next_count t reply s c ≡ record { rounds = c.rounds + (rounds_by t c.pending reply s).0; pending = (rounds_by t c.pending reply s).1 }
-next_is t Accepted s c calm = absurd (calm refl)
-next_is t (Moves x) s c calm = refl
-next_is t (Refused x) s c calm = refl
-next_is t (Shown x) s c calm = refl
-next_is t (EnabledAre x) s c calm = refl
-next_is t (Pairs x) s c calm = refl
-next_is t (Counts x) s c calm = refl
+next_is t reply s c calm = grind arith
 
 -- without a disturbance the rounds of the log are added
 pub calm_count : (t : RuleTable) (s : State) (log : List Entry) (c : RoundCount) → IsUndisturbed log → (last_count t s log c).rounds ≡ c.rounds + rounds_from t s c.pending log
@@ -19,18 +13,12 @@ calm_count t s [] c calm = omega arith
 calm_count t s (entry ∷ log) c calm =
     let next = followed s entry.0 entry.1 in
     let turn = rounds_by t c.pending entry.1 next in
-    ap (λ (d : RoundCount). (last_count t next log d).rounds) (next_is t entry.1 next c (All-head (λ (e : Entry). e.1 ≢ Accepted) entry log calm))
-    ∙ calm_count t next log (record { rounds = c.rounds + turn.0; pending = turn.1 }) (All-tail (λ (e : Entry). e.1 ≢ Accepted) entry log calm)
-    ∙ join c.rounds turn.0 (rounds_from t next turn.1 log)
-  where
-    join : (a b c : ℕ) → (a + b) + c ≡ a + (b + c)
-    join a b c = omega arith
+    let first = ap (λ (d : RoundCount). (last_count t next log d).rounds) (next_is t entry.1 next c (All-head (λ (e : Entry). e.1 ≢ Accepted) entry log calm)) in
+    let rest = calm_count t next log (record { rounds = c.rounds + turn.0; pending = turn.1 }) (All-tail (λ (e : Entry). e.1 ≢ Accepted) entry log calm) in
+    omega (arith, first, rest)
 
 pub counted_whole : (t : RuleTable) (s : State) (log : List Entry) → IsUndisturbed log → (count_of_log t s log).rounds ≡ rounds_in t s log
-counted_whole t s log calm = calm_count t s log (first_count t s) calm ∙ zero_add (rounds_in t s log)
-  where
-    zero_add : (n : ℕ) → 0 + n ≡ n
-    zero_add n = omega arith
+counted_whole t s log calm = omega (arith, calm_count t s log (first_count t s) calm)
 
 -- one log after another
 pub last_after : (t : RuleTable) (s : State) (some rest : List Entry) (c : RoundCount) → last_count t s (some ++ rest) c ≡ last_count t (state_from s some) rest (last_count t s some c)

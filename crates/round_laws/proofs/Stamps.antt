@@ -80,16 +80,10 @@ all_wait t s round stamp old = record {
 turn_stamped : (t : RuleTable) (s : State) (log : List Entry) → IsStamped t s log → (xs : List ℕ) (round : ℕ) (stamp : ℕ → ℕ) → Agrees t s xs round stamp → round_from t s (round_after t s round stamp) stamp log ≡ round + ((round_turn t s xs).0 + rounds_from t s (round_turn t s xs).1 log) + (0 + cuts_in log)
 turn_stamped t s log more [] round stamp it =
     let next = none_waits t s round stamp (λ v waits there. it.pends v waits there) in
-    ap (λ r. round_from t s r stamp log) next ∙ more (enabled_names t s) (round + 1) stamp (all_wait t s round stamp it.old) ∙ add_one round (rounds_from t s (enabled_names t s) log) (cuts_in log)
-  where
-    add_one : (a b c : ℕ) → a + 1 + b + c ≡ a + (1 + b) + (0 + c)
-    add_one a b c = omega arith
+    omega (arith, ap (λ r. round_from t s r stamp log) next, more (enabled_names t s) (round + 1) stamp (all_wait t s round stamp it.old))
 turn_stamped t s log more (x ∷ xs) round stamp it =
     let first = it.waits x (inl refl) in
-    ap (λ r. round_from t s r stamp log) (one_waits t s round stamp x first.0 first.1) ∙ more (x ∷ xs) round stamp it ∙ add_none round (rounds_from t s (x ∷ xs) log) (cuts_in log)
-  where
-    add_none : (a b c : ℕ) → a + b + c ≡ a + (0 + b) + (0 + c)
-    add_none a b c = omega arith
+    omega (arith, ap (λ r. round_from t s r stamp log) (one_waits t s round stamp x first.0 first.1), more (x ∷ xs) round stamp it)
 
 entry_stamped : (t : RuleTable) (s : State) (event : Event) (reply : Reply) (log : List Entry) → IsStamped t (followed s event reply) log → IsStamped t s ((event, reply) ∷ log)
 entry_stamped t s event (Moves moves) log more pending round stamp it =
@@ -99,14 +93,8 @@ entry_stamped t s event (Moves moves) log more pending round stamp it =
       old = old_then t s (followed s event (Moves moves)) moves refl pending round stamp it;
     })
 entry_stamped t s event Accepted log more pending round stamp it =
-    more (enabled_names t (followed s event Accepted)) (round + 1) stamp (all_wait t (followed s event Accepted) round stamp it.old) ∙ swap round (rounds_from t (followed s event Accepted) (enabled_names t (followed s event Accepted)) log) (cuts_in log)
-  where
-    swap : (a b c : ℕ) → a + 1 + b + c ≡ a + (0 + b) + (1 + c)
-    swap a b c = omega arith
-entry_stamped t s event reply log more pending round stamp it = more pending round stamp it ∙ add_none round (rounds_from t s pending log) (cuts_in log)
-  where
-    add_none : (a b c : ℕ) → a + b + c ≡ a + (0 + b) + (0 + c)
-    add_none a b c = omega arith
+    omega (arith, more (enabled_names t (followed s event Accepted)) (round + 1) stamp (all_wait t (followed s event Accepted) round stamp it.old))
+entry_stamped t s event reply log more pending round stamp it = omega (arith, more pending round stamp it)
 
 log_stamped : (t : RuleTable) (s : State) (log : List Entry) → IsStamped t s log
 log_stamped t s [] pending round stamp it = omega arith
@@ -125,13 +113,7 @@ uncut (entry ∷ log) calm =
     calm_reply reply calm = refl
 
 pub rounds_are_stamped : (t : RuleTable) (s : State) (log : List Entry) → round_reached t s log ≡ rounds_in t s log + cuts_in log + 1
-rounds_are_stamped t s log = log_stamped t s log (enabled_names t s) 1 (λ v. 0) (all_wait t s 0 (λ v. 0) (λ v. omega arith)) ∙ swap (rounds_in t s log) (cuts_in log)
-  where
-    swap : (a b : ℕ) → 1 + a + b ≡ a + b + 1
-    swap a b = omega arith
+rounds_are_stamped t s log = omega (arith, log_stamped t s log (enabled_names t s) 1 (λ v. 0) (all_wait t s 0 (λ v. 0) (λ v. omega arith)))
 
 pub undisturbed_rounds_are_stamped : (t : RuleTable) (s : State) (log : List Entry) → IsUndisturbed log → round_reached t s log ≡ rounds_in t s log + 1
-undisturbed_rounds_are_stamped t s log calm = rounds_are_stamped t s log ∙ ap (λ n. rounds_in t s log + n + 1) (uncut log calm) ∙ add_none (rounds_in t s log)
-  where
-    add_none : (a : ℕ) → a + 0 + 1 ≡ a + 1
-    add_none a = omega arith
+undisturbed_rounds_are_stamped t s log calm = omega (arith, rounds_are_stamped t s log, uncut log calm)
