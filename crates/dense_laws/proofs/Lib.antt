@@ -12,3 +12,4 @@ pub mod HsuHuangPlays
 pub mod Games
 pub mod Schedule
 pub mod CompleteNetworks
+pub mod Bound

@@ -10,7 +10,8 @@
 -- leaves one that is pointed at. The move that opens a trap makes two fewer nodes stuck; one that takes a
 -- suitor has four to spare, since two nodes are stuck already.
 use Rattle.dense_laws.proofs.Prelude.{◌≡◌, ◌≢◌, ℕ, ◌+◌, ◌*◌, ◌≤◌, Bool, not, ◌&&◌, List, Option, None, Some, is_none, IsTrue, nat_eq, sym, ap, ◌∙◌, inl, inr, ⊎_elim, ◌⊎◌, arith, cases_eq, and_parts, and_from, not-true, not_from_false, false_from_ne_true, true≢false, eq-eqb, ne_eqb, none-some, same_Some, IsIn, IsWithoutRepeats, stance, is_paired, null_is, null_from, paired_from, paired_is, paired_stays, SoloTurn, takes, courts, leaves, IsSolo}
-use Rattle.dense_laws.proofs.Counts.{count_le, count_more, IsGone, count_less, count_less_two, count_one, count_two}
+use Rattle.machine_laws.proofs.ListCounts.{count_le, one_count}
+use Rattle.dense_laws.proofs.Counts.{count_more, IsGone, count_less, count_less_two, count_two}
 use Rattle.dense_laws.proofs.NodeKinds.{is_single, is_idle, is_stuck, singles, idles, stucks, stuck_from, stuck_is, single_free, single_waiting, paired_not_single, kinds_are_all}
 use Rattle.dense_laws.proofs.Arithmetic.{Falls, falls_beside, falls_by_two}
 
@@ -126,7 +127,7 @@ courting_stuck p p' x w it v h = grind (arith, stuck_is, same_Some, courting_kep
 courting_lowers : (p p' : ℕ → Option ℕ) (x w : ℕ) (xs : List ℕ) → IsAmong p xs → IsIn x xs → IsCourting p p' x w → Lowers 2 p p' xs xs
 courting_lowers p p' x w xs among there it =
     let idle = count_less (is_idle p') (is_idle p) x xs among.once (λ v h. idle_was p p' x it.solo v (λ same. not_idle (ap is_none (ap p' (sym same)) ∙ h)) h) (record { there = there; was = null_is (p x) it.null; gone = not_idle }) in
-    let stuck = count_le (is_stuck p') (is_stuck p) xs (courting_stuck p p' x w it) in
+    let stuck = count_le (is_stuck p') (is_stuck p) xs (λ v there. courting_stuck p p' x w it v) in
     falls_beside 2 (singles p xs) (stucks p xs) (idles p xs) (singles p' xs) (stucks p' xs) (idles p' xs) (courting_singles p p' x w xs it) (omega (arith, idle, stuck))
   where
     not_idle : IsTrue (is_idle p' x) → ⊥
@@ -141,7 +142,7 @@ taking_falls p p' x w xs among solo null suitor now =
     (record { there = (among.ends w x suitor).0; was = single_waiting p w x suitor (λ back. none-some w (sym null ∙ back)); gone = paired_not_single p' w x kept now })
     (λ same. apart (sym same)) in
     let kinds = kinds_are_all p' xs in
-    let idle = count_one (is_idle p) x xs among.once (among.ends w x suitor).1 (null_is (p x) null) in
+    let idle = one_count (is_idle p) xs x (among.ends w x suitor).1 (null_is (p x) null) in
     falls_by_two (singles p xs) (idles p xs) (singles p' xs) (stucks p' xs) (idles p' xs) pair (omega (arith, kinds)) idle
   where
     apart : w ≡ x → ⊥

@@ -1,6 +1,6 @@
 -- Runs without a disturbance by Hsu and Huang's rules: the dense charge pays for them. At most as many moves as
 -- the bound are made, and a run that is long enough ends silent.
-use Rattle.dense_laws.proofs.Prelude.{◌≡◌, ◌≢◌, ℕ, ◌+◌, ◌-◌, ◌*◌, ◌/◌, ◌<◌, ◌≤◌, List, [], ◌∷◌, length, sym, subst, inl, inr, ⊎_elim, ◌⊎◌, arith, cases_lt, All-head, All-tail, sum_by-cons, Item, Moved, Event, Reply, Accepted, names, node_count, State, IsState, pointer, enabled_names, hsu_huang, IsStep, Answers, spent_after, Entry, Moment, Run, answers_keep, moves_of, moves_in, IsUndisturbed, Effect, rests, steps, disturbs, effect, end_of_path, path_entries, IsPath, hsu_huang_inside, IsDriven, IsBudget, driven_is_quiet, hsu_huang_table, dense_bound, dense_charge}
+use Rattle.dense_laws.proofs.Prelude.{◌≡◌, ◌≢◌, ℕ, ◌+◌, ◌-◌, ◌*◌, ◌/◌, ◌<◌, ◌≤◌, List, [], ◌∷◌, length, sym, subst, inl, inr, ⊎_elim, ◌⊎◌, arith, cases_lt, All-head, All-tail, sum_by-cons, Item, Moved, Event, Reply, Accepted, names, node_count, State, IsState, pointer, enabled_names, hsu_huang, IsStep, Answers, spent_after, Entry, Moment, Run, answers_keep, moves_of, moves_in, IsUndisturbed, Effect, rests, steps, disturbs, effect, end_of_path, path_entries, IsPath, hsu_huang_inside, IsDriven, IsBudget, driven_is_quiet, hsu_huang_table, dense_charge}
 use Rattle.dense_laws.proofs.Moves.{IsTrap}
 use Rattle.dense_laws.proofs.Starts.{lone_is_low, trap_or_less}
 use Rattle.dense_laws.proofs.Falls.{among_from, charge_of, charge_is, sides_are, IsFall, step_falls, charge_bounded, trap_charged}
@@ -74,10 +74,6 @@ moves_are_few start good log end run calm =
   where
     spends : (k : ℕ) (s : State) (moves : List Moved) (s' : State) (long : ℕ) → k ≤ long → (length moves ≤ long - k) × HasMovesWithin s' (long - k - length moves) → (k + length moves ≤ long) × HasMovesWithin s' (long - (k + length moves))
     spends k s moves s' long few has = (omega (arith, few, has.0), more_within s' (long - k - length moves) (long - (k + length moves)) has.1 (omega arith))
-
--- the same as a number
-pub within_bound : (start : Moment) → IsState start.state → (log : List Entry) (end : Moment) → Run hsu_huang start log end → IsUndisturbed log → moves_in log ≤ dense_bound (node_count start.state.network)
-within_bound start good log end run calm = omega (arith, moves_are_few start good log end run calm)
 
 -- a driven run of as many entries ends silent
 pub enough_turns_end_silent : (start : Moment) → IsState start.state → (path : List (Entry × State)) → IsPath hsu_huang start path → IsUndisturbed (path_entries path) → IsDriven hsu_huang start.state path → node_count start.state.network * node_count start.state.network + 2 * node_count start.state.network ≤ 2 * length path + 5 → enabled_names hsu_huang (end_of_path start.state path) ≡ []

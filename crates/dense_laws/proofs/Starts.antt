@@ -1,7 +1,8 @@
 -- The potential from above and from below. If no node is married, none hopes and one is stuck, all that point
 -- are in a trap; else it is at most four less than its greatest value.
 use Rattle.dense_laws.proofs.Prelude.{◌≡◌, ◌≢◌, ℕ, refl, true, ◌+◌, ◌*◌, ◌<◌, ◌≤◌, false, List, length, count_by, Option, None, IsTrue, ap, inl, inr, ⊎_elim, ◌⊎◌, arith, cases_lt, true≢false, none-some, option_cases, IsIn, count_none, count_all, stance, is_paired, null_is, paired_is, paired_from, StanceCase, stance_cases}
-use Rattle.dense_laws.proofs.Counts.{count_one, count_two, count_exists, count_both}
+use Rattle.machine_laws.proofs.ListCounts.{count_not, one_count}
+use Rattle.dense_laws.proofs.Counts.{count_two, count_exists}
 use Rattle.dense_laws.proofs.NodeKinds.{is_idle, is_stuck, is_hoping, singles, idles, stucks, hopings, stuck_from, stuck_is, hoping_from, hoping_is, kinds_are_all}
 use Rattle.dense_laws.proofs.Arithmetic.{most_at_all, most_with_pair, most_with_hope, most_idle, most_alone, least, least_stuck}
 use Rattle.dense_laws.proofs.Moves.{IsAmong, IsTrap, trap_stucks}
@@ -17,7 +18,7 @@ hope_idle : (p : ℕ → Option ℕ) (xs : List ℕ) → IsAmong p xs → 1 ≤ 
 hope_idle p xs among some =
     let one = count_exists (is_hoping p) xs some in
     let aim = hoping_is p one.0 one.2 in
-    count_one (is_idle p) aim.0 xs among.once (among.ends one.0 aim.0 aim.1).1 (null_is (p aim.0) aim.2)
+    one_count (is_idle p) xs aim.0 (among.ends one.0 aim.0 aim.1).1 (null_is (p aim.0) aim.2)
 
 -- an unmarried node is idle or stuck, or one that it points at is
 someone : (p : ℕ → Option ℕ) (xs : List ℕ) → IsAmong p xs → 1 ≤ singles p xs → 1 ≤ idles p xs + stucks p xs
@@ -35,7 +36,7 @@ pub trap_above : (p : ℕ → Option ℕ) (xs : List ℕ) → IsAmong p xs → I
 trap_above p xs among trap = least_stuck (singles p xs) (stucks p xs) (idles p xs) (trap_stucks p xs among trap)
 
 singles_within : (p : ℕ → Option ℕ) (xs : List ℕ) → singles p xs ≤ length xs
-singles_within p xs = let both = count_both (λ v. is_paired (stance p v)) xs in omega (arith, both)
+singles_within p xs = let both = count_not (λ v. is_paired (stance p v)) xs in omega (arith, both)
 
 pub most : (p : ℕ → Option ℕ) (xs : List ℕ) → high p xs ≤ length xs * length xs + 2 * length xs + low p xs
 most p xs =
@@ -69,7 +70,7 @@ trap_or_less p xs among two =
     (λ (free : count_by (λ v. is_paired (stance p v)) xs < 1). unmarried (count_none (λ v. is_paired (stance p v)) xs (omega (arith, free))))
     (λ (some : 1 ≤ count_by (λ v. is_paired (stance p v)) xs).
     let pair = pair_is_two p xs among some in
-    let both = count_both (λ v. is_paired (stance p v)) xs in
+    let both = count_not (λ v. is_paired (stance p v)) xs in
     inr (most_with_pair (singles p xs) (stucks p xs) (idles p xs) (length xs) parts (omega (arith, pair, both))))
     (cases_lt (count_by (λ v. is_paired (stance p v)) xs) 1)
   where

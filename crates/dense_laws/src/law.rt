@@ -60,7 +60,7 @@ pub fn bound_is_reached()
 {}
 
 /// The bound of `moves_are_few` as one number: n²/2 + n - 2 rounded down, and 0 if n is 0 or 1.
-#[tactic(auto, using(crate::proofs::Runs::within_bound))]
+#[tactic(auto, using(crate::proofs::Bound::within_bound))]
 pub fn dense_bound_holds()
     ensures { (start : Moment) → IsState start.state → (log : List Entry) (end : Moment) → Run hsu_huang start log end → IsUndisturbed log
         → moves_in log ≤ dense_bound (node_count start.state.network) }

@@ -7,10 +7,9 @@ pub mod ManneGuards
 pub mod Manne
 pub mod Compare
 pub mod Plays
-pub mod HsuHuangReached
 pub mod MannePlays
 pub mod ManneSchedule
-pub mod ManneReached
+pub mod Reached
 pub mod Stamps
 pub mod Pieces
 pub mod RoundCounts

@@ -9,7 +9,7 @@
 --
 -- If no node is married at the beginning, honest flags are right, and the first two of the four rounds are not
 -- needed. If some nodes are married, there are two fewer to come.
-use Rattle.round_laws.proofs.Prelude.{◌≡◌, ℕ, zero, suc, ◌+◌, ◌-◌, ◌*◌, ◌/◌, ◌<◌, ◌≤◌, true, false, not, List, [], None, Some, IsTrue, refl, sym, ap, ◌∙◌, subst, inl, inr, ◌⊎◌, ⊎_elim, arith, cases_lt, cases_Bool, true≢false, false_from_ne_true, none-some, Act, Update, Marry, Seduce, Abandon, Moved, Item, linked, names, node_count, State, IsState, pointer, flag, married, has_suitor, enabled_names, manne, IsStep, Entry, Moment, Run, option_cases, pointer_linked, suitor_linked, linked_apart, linked_present, present_range, suitor_some, null_unmarried, unanswered_unmarried, married_from, IsUndisturbed, manne_asks, manne_inside, manne_table, IsIn, in_names, names_without_repeats, count_all, count_one, IsDone, step_done, is_mover_in, unmarried_nodes, rounds_in}
+use Rattle.round_laws.proofs.Prelude.{◌≡◌, ℕ, zero, suc, ◌+◌, ◌-◌, ◌*◌, ◌/◌, ◌<◌, ◌≤◌, true, false, not, List, [], None, Some, IsTrue, refl, sym, ap, ◌∙◌, subst, inl, inr, ◌⊎◌, ⊎_elim, arith, cases_lt, cases_Bool, true≢false, false_from_ne_true, none-some, Act, Update, Marry, Seduce, Abandon, Moved, Item, linked, names, node_count, State, IsState, pointer, flag, married, has_suitor, enabled_names, manne, IsStep, Entry, Moment, Run, option_cases, pointer_linked, suitor_linked, linked_apart, linked_present, present_range, suitor_some, null_unmarried, unanswered_unmarried, married_from, IsUndisturbed, manne_asks, manne_inside, manne_table, IsIn, in_names, names_without_repeats, count_all, one_count, IsDone, step_done, is_mover_in, unmarried_nodes, rounds_in}
 use Rattle.round_laws.proofs.Counting.{left, still_pending, in_enabled, silent_or_not, IsRoundBudget, rounds_within}
 use Rattle.round_laws.proofs.NewPairs.{unmarried_few, two_unmarried, one_unmarried, married_or_not, married_stays, pair_or_not}
 use Rattle.round_laws.proofs.JointTurns.{IsJoint, IsHonest, IsRight, IsSorted, honest_then, raised_was, hope_stays, unset_was, right_then, idle_was, hope_begins, sorted_then, courted_stays}
@@ -92,40 +92,37 @@ module _ (s s' : State) (moves : List Moved) (it : Joint s s' moves) where
   still : (v : ℕ) (pending : List ℕ) (act : Act) → IsIn v pending → is_mover_in moves v ≡ false → IsTrue (manne.guard s' v act) → IsIn v (left manne moves s' pending)
   still v pending act there idle guard = still_pending manne moves s' v pending act there idle guard
 
-  -- a new pair
-  fresh : (pending : List ℕ) (b : ℕ) → Honest s → cost (unmarried_nodes s) ≤ b + 2 → unmarried_nodes s' + 2 ≤ unmarried_nodes s → Due s' pending b
-  fresh pending b honest le two = wed (honest_then it.joint honest) (omega (arith, two, le))
-
   raised_keeps : (pending : List ℕ) → ((v : ℕ) → flag s v ≡ true → married s v ≡ false → IsIn v pending) → (v : ℕ) → flag s' v ≡ true → married s' v ≡ false → IsIn v (left manne moves s' pending)
   raised_keeps pending wait v on single =
       let was = raised_was it.joint v on single in
       still v pending Update (wait v was.1 was.2) was.0 (wrong_enabled s' v (on ∙ sym (ap not single)))
 
-  module _ (same : (v : ℕ) → married s' v ≡ married s v) (count : unmarried_nodes s' ≡ unmarried_nodes s) (right : Right s) where
-    right' : Right s'
-    right' = right_then it.joint same right
-
-    sorted_keeps : (pending : List ℕ) → Sorted s pending → Sorted s' (left manne moves s' pending)
-    sorted_keeps pending sorted =
+  -- if no pair is new
+  module _ (same : (v : ℕ) → married s' v ≡ married s v) (count : unmarried_nodes s' ≡ unmarried_nodes s) where
+    sorted_keeps : (pending : List ℕ) → Right s → Sorted s pending → Sorted s' (left manne moves s' pending)
+    sorted_keeps pending right sorted =
         sorted_then it.joint same right pending (left manne moves s' pending)
-        (λ v w there idle now single lost. still v pending Abandon there idle (hopeless_enabled s' it.after right' v w now single lost)) sorted
+        (λ v w there idle now single lost. still v pending Abandon there idle (hopeless_enabled s' it.after (right_then it.joint same right) v w now single lost)) sorted
 
-    facing_keeps : (pending : List ℕ) (b v w : ℕ) → Sorted s pending → IsTrue (linked s.network v w) → v < w → pointer s v ≡ None → (pointer s w ≡ None) ⊎ (pointer s w ≡ Some v) → IsIn v pending → cost (unmarried_nodes s) ≤ b + 1 → Due s' (left manne moves s' pending) b
-    facing_keeps pending b v w sorted near up null high there le =
+    facing_keeps : (pending : List ℕ) (b v w : ℕ) → Right s → Sorted s pending → IsTrue (linked s.network v w) → v < w → pointer s v ≡ None → (pointer s w ≡ None) ⊎ (pointer s w ≡ Some v) → IsIn v pending → cost (unmarried_nodes s) ≤ b + 1 → Due s' (left manne moves s' pending) b
+    facing_keeps pending b v w right sorted near up null high there le =
         ⊎_elim
         (λ stays. ⊎_elim
         (λ free. on stays (inl free))
         (λ some. ⊎_elim
         (λ kept. on stays (inr (kept ∙ was_suitor some.0 (sym kept ∙ some.1) high)))
-        (λ new. hoping w some.0 right' (sorted_keeps pending sorted) some.1 (same w ∙ null_unmarried s w new.0) new.1 new.2 (omega (arith, count, le)))
+        (λ new. hoping w some.0 right' (sorted_keeps pending right sorted) some.1 (same w ∙ null_unmarried s w new.0) new.1 new.2 (omega (arith, count, le)))
         (hope_begins it.joint same right w some.0 some.1))
         (option_cases (pointer s' w)))
         (λ some. ⊎_elim
         (λ kept. absurd (none-some some.0 (sym null ∙ sym kept ∙ some.1)))
-        (λ new. hoping v some.0 right' (sorted_keeps pending sorted) some.1 (same v ∙ null_unmarried s v null) new.1 new.2 (omega (arith, count, le)))
+        (λ new. hoping v some.0 right' (sorted_keeps pending right sorted) some.1 (same v ∙ null_unmarried s v null) new.1 new.2 (omega (arith, count, le)))
         (hope_begins it.joint same right v some.0 some.1))
         (option_cases (pointer s' v))
       where
+        right' : Right s'
+        right' = right_then it.joint same right
+
         was_suitor : (z : ℕ) → pointer s w ≡ Some z → (pointer s w ≡ None) ⊎ (pointer s w ≡ Some v) → pointer s w ≡ Some v
         was_suitor z at (inl free) = absurd (none-some z (sym free ∙ at))
         was_suitor z at (inr suits) = suits
@@ -134,58 +131,45 @@ module _ (s s' : State) (moves : List Moved) (it : Joint s s' moves) where
         on stays high' =
             let near' = subst (λ net. IsTrue (linked net v w)) (sym it.network) near in
             let act = facing_enabled s' it.after right' v w near' up stays high' in
-            facing v w right' (sorted_keeps pending sorted) near' up stays high'
+            facing v w right' (sorted_keeps pending right sorted) near' up stays high'
             (still v pending act.0 there (idle_was it.joint same right v (stays ∙ sym null)) act.1) (omega (arith, count, le))
 
-    hoping_keeps : (pending : List ℕ) (b v w : ℕ) → Sorted s pending → pointer s v ≡ Some w → married s v ≡ false → v < w → flag s w ≡ false → cost (unmarried_nodes s) ≤ b + 1 → Due s' (left manne moves s' pending) b
-    hoping_keeps pending b v w sorted at single up off le =
-        hoping v w right' (sorted_keeps pending sorted) (hope_stays it.joint v w at up off) (same v ∙ single) up (right' w ∙ same w ∙ sym (right w) ∙ off) (omega (arith, count, le))
-
-    promised_keeps : (pending : List ℕ) (b v u : ℕ) → Sorted s [] → pointer s v ≡ None → pointer s u ≡ Some v → IsIn v pending → cost (unmarried_nodes s) ≤ b + 2 → Due s' (left manne moves s' pending) b
-    promised_keeps pending b v u sorted null suits there le =
+    keeps_on : (pending : List ℕ) (b : ℕ) → Due s pending b → Due s' (left manne moves s' pending) b
+    keeps_on pending b (raised wait how le one) =
+        raised (raised_keeps pending wait) (⊎_elim (λ alone. inl (λ v. same v ∙ alone v)) (λ more. inr (omega (arith, count, more))) how) (omega (arith, count, le)) one
+    keeps_on pending b (wed honest le) = wed (honest_then it.joint honest) (omega (arith, count, le))
+    keeps_on pending b (unset honest wait le) =
+        unset (honest_then it.joint honest)
+        (λ v wed off. let was = unset_was it.joint same v wed off in still v pending Update (wait v was.1 was.2) was.0 (wrong_enabled s' v (off ∙ sym (ap not wed))))
+        (omega (arith, count, le))
+    keeps_on pending b (hopeless right sorted le one) = hopeless (right_then it.joint same right) (sorted_keeps pending right sorted) (omega (arith, count, le)) one
+    keeps_on pending b (facing v w right sorted near up null high there le) = facing_keeps pending b v w right sorted near up null high there le
+    keeps_on pending b (hoping v w right sorted at single up off le) =
+        let right' = right_then it.joint same right in
+        hoping v w right' (sorted_keeps pending right sorted) (hope_stays it.joint v w at up off) (same v ∙ single) up (right' w ∙ same w ∙ sym (right w) ∙ off) (omega (arith, count, le))
+    keeps_on pending b (promised v u right sorted null suits there le) =
+        let right' = right_then it.joint same right in
         let stays = courted_stays it.joint same right sorted v u null suits in
         let waits = ⊎_elim (λ hope. hope_stays it.joint u v suits hope.0 hope.1) (λ none. absurd none) (sorted u v suits (suitor_single s v u null suits)) in
-        promised v u right' (sorted_keeps [] sorted) stays waits
+        promised v u right' (sorted_keeps [] right sorted) stays waits
         (still v pending Marry there (idle_was it.joint same right v (stays ∙ sym null)) (marry_enabled s' it.after v u (right' v) stays waits))
         (omega (arith, count, le))
 
+  -- a new pair: honest flags are known at least
+  fresh : (pending : List ℕ) (b : ℕ) → Right s → cost (unmarried_nodes s) ≤ b + 2 → unmarried_nodes s' + 2 ≤ unmarried_nodes s → Due s' pending b
+  fresh pending b right le two = wed (honest_then it.joint (λ v on. sym (right v) ∙ on)) (omega (arith, two, le))
+
+  new_pair : (pending : List ℕ) (b : ℕ) → unmarried_nodes s' + 2 ≤ unmarried_nodes s → Due s pending b → Due s' (left manne moves s' pending) b
+  new_pair pending b two (raised wait how le one) = raised (raised_keeps pending wait) (inr (omega (arith, two, le))) (omega (arith, two, le)) one
+  new_pair pending b two (wed honest le) = wed (honest_then it.joint honest) (omega (arith, two, le))
+  new_pair pending b two (unset honest wait le) = wed (honest_then it.joint honest) (omega (arith, two, le))
+  new_pair pending b two (hopeless right sorted le one) = fresh (left manne moves s' pending) b right (omega (arith, le)) two
+  new_pair pending b two (facing v w right sorted near up null high there le) = fresh (left manne moves s' pending) b right (omega (arith, le)) two
+  new_pair pending b two (hoping v w right sorted at single up off le) = fresh (left manne moves s' pending) b right (omega (arith, le)) two
+  new_pair pending b two (promised v u right sorted null suits there le) = fresh (left manne moves s' pending) b right le two
+
   keeps : (pending : List ℕ) (b : ℕ) → Due s pending b → Due s' (left manne moves s' pending) b
-  keeps pending b (raised wait how le one) =
-      ⊎_elim
-      (λ two. raised (raised_keeps pending wait) (inr (omega (arith, two, le))) (omega (arith, two, le)) one)
-      (λ same. raised (raised_keeps pending wait)
-      (⊎_elim (λ alone. inl (λ v. same.0 v ∙ alone v)) (λ more. inr (omega (arith, same.1, more))) how)
-      (omega (arith, same.1, le)) one)
-      it.pairs
-  keeps pending b (wed honest le) =
-      wed (honest_then it.joint honest) (⊎_elim (λ two. omega (arith, two, le)) (λ same. omega (arith, same.1, le)) it.pairs)
-  keeps pending b (unset honest wait le) =
-      ⊎_elim
-      (fresh (left manne moves s' pending) b honest (omega (arith, le)))
-      (λ same. unset (honest_then it.joint honest)
-      (λ v wed off. let was = unset_was it.joint same.0 v wed off in still v pending Update (wait v was.1 was.2) was.0 (wrong_enabled s' v (off ∙ sym (ap not wed))))
-      (omega (arith, same.1, le)))
-      it.pairs
-  keeps pending b (hopeless right sorted le one) =
-      ⊎_elim
-      (fresh (left manne moves s' pending) b (λ v on. sym (right v) ∙ on) (omega (arith, le)))
-      (λ same. hopeless (right' same.0 same.1 right) (sorted_keeps same.0 same.1 right pending sorted) (omega (arith, same.1, le)) one)
-      it.pairs
-  keeps pending b (facing v w right sorted near up null high there le) =
-      ⊎_elim
-      (fresh (left manne moves s' pending) b (λ v on. sym (right v) ∙ on) (omega (arith, le)))
-      (λ same. facing_keeps same.0 same.1 right pending b v w sorted near up null high there le)
-      it.pairs
-  keeps pending b (hoping v w right sorted at single up off le) =
-      ⊎_elim
-      (fresh (left manne moves s' pending) b (λ v on. sym (right v) ∙ on) (omega (arith, le)))
-      (λ same. hoping_keeps same.0 same.1 right pending b v w sorted at single up off le)
-      it.pairs
-  keeps pending b (promised v u right sorted null suits there le) =
-      ⊎_elim
-      (fresh (left manne moves s' pending) b (λ v on. sym (right v) ∙ on) (omega (arith, le)))
-      (λ same. promised_keeps same.0 same.1 right pending b v u sorted null suits there le)
-      it.pairs
+  keeps pending b due = ⊎_elim (λ two. new_pair pending b two due) (λ same. keeps_on same.0 same.1 pending b due) it.pairs
 
 -- ---- a round begins
 
@@ -208,13 +192,10 @@ module _ (s : State) (good : IsState s) (right : Right s) where
 
   begin_sorted : Sorted s (enabled_names manne s)
   begin_sorted v w at single =
-      ⊎_elim
-      (λ (up : v < w). ⊎_elim (λ on. inr (by_lost (inl on))) (λ off. inl (up, off)) (cases_Bool (flag s w)))
-      (λ (down : w ≤ v). inr (by_lost (inr down)))
-      (cases_lt v w)
+      by_lost (cases_lt v w) (cases_Bool (flag s w)) (λ lost. enabled_in s good v Abandon (hopeless_enabled s good right v w at single lost))
     where
-      by_lost : (flag s w ≡ true) ⊎ (w ≤ v) → IsIn v (enabled_names manne s)
-      by_lost lost = enabled_in s good v Abandon (hopeless_enabled s good right v w at single lost)
+      by_lost : (v < w) ⊎ (w ≤ v) → (flag s w ≡ true) ⊎ (flag s w ≡ false) → ((flag s w ≡ true) ⊎ (w ≤ v) → IsIn v (enabled_names manne s)) → ((v < w) × (flag s w ≡ false)) ⊎ IsIn v (enabled_names manne s)
+      by_lost up on lost = grind arith
 
   begin_hopeless : (b : ℕ) → cost (unmarried_nodes s) ≤ b → Next s b
   begin_hopeless b le =
@@ -322,7 +303,7 @@ begin s good = ⊎_elim (λ quiet. inl quiet) (λ some. by_married (some_node so
   where
     some_node : (v : ℕ) (act : Act) → IsTrue (manne.guard s v act) → 1 ≤ node_count s.network
     some_node v act guard =
-        let one = count_one (λ x. true) v (names s.network) (names_without_repeats s.network) (in_names s.network v (manne_inside.has s v act good guard)) refl in
+        let one = one_count (λ x. true) (names s.network) v (in_names s.network v (manne_inside.has s v act good guard)) refl in
         let all = count_all (names s.network) in
         omega (arith, one, all)
 

@@ -1,6 +1,6 @@
 -- The unmarried nodes. A step of any rule set forms pairs and breaks none, and a new pair takes two from the
 -- unmarried nodes.
-use Rattle.round_laws.proofs.Prelude.{◌≡◌, ℕ, ◌+◌, ◌<◌, ◌≤◌, List, count_by, true, false, not, Some, IsTrue, refl, sym, ap, ◌∙◌, inl, inr, ◌⊎◌, ⊎_elim, arith, cases_lt, cases_Bool, not-true, not_from_false, false_from_ne_true, true≢false, none-some, same_Some, Act, Update, Marry, Seduce, Abandon, Moved, linked, names, node_count, State, IsState, pointer, married, RuleTable, AsksForWork, linked_apart, linked_back, linked_present, null_unmarried, unanswered_unmarried, married_from, married_some, in_names, names_without_repeats, count_agree, count_all, count_one, count_two, count_by-le-length, count_less_two, unmarried_nodes, among_from, IsInside, IsDone}
+use Rattle.round_laws.proofs.Prelude.{Bool, ◌≡◌, ℕ, ◌+◌, ◌<◌, ◌≤◌, List, count_by, true, false, not, Some, IsTrue, refl, sym, ap, ◌∙◌, inl, inr, ◌⊎◌, ⊎_elim, arith, cases_lt, cases_Bool, not-true, not_from_false, false_from_ne_true, true≢false, none-some, same_Some, Act, Update, Marry, Seduce, Abandon, Moved, linked, names, node_count, State, IsState, pointer, married, RuleTable, AsksForWork, linked_apart, linked_back, linked_present, null_unmarried, unanswered_unmarried, married_from, married_some, in_names, names_without_repeats, count_agree, count_all, one_count, count_two, count_by-le-length, count_less_two, unmarried_nodes, among_from, IsInside, IsDone}
 use Rattle.machine_laws.proofs.NodeMoves.{Deed, idles, updates, marries, seduces, abandons}
 
 pub unmarried_few : (s : State) → unmarried_nodes s ≤ node_count s.network
@@ -23,20 +23,23 @@ mover_unmarried t asks s v Abandon right guard = let at = asks.abandon s v guard
 
 pub one_unmarried : (t : RuleTable) → IsInside t → AsksForWork t → (s : State) → IsState s → (v : ℕ) (act : Act) → t.guard s v Update ≡ false → IsTrue (t.guard s v act) → 1 ≤ unmarried_nodes s
 one_unmarried t inside asks s good v act right guard =
-    count_one (λ x. not (married s x)) v (names s.network) (names_without_repeats s.network) (in_names s.network v (inside.has s v act good guard))
+    one_count (λ x. not (married s x)) (names s.network) v (in_names s.network v (inside.has s v act good guard))
     (not_from_false (married s v) (mover_unmarried t asks s v act right guard))
+
+-- the two nodes of a pair are not unmarried, where a test counts both
+pair_counted : (s : State) → IsState s → (q : ℕ → Bool) (v w : ℕ) → pointer s v ≡ Some w → pointer s w ≡ Some v → ((x : ℕ) → married s x ≡ false → IsTrue (q x)) → IsTrue (q v) → IsTrue (q w) → unmarried_nodes s + 2 ≤ count_by q (names s.network)
+pair_counted s good q v w at back within here also =
+    let among = among_from s good in
+    let ends = among.ends v w at in
+    count_less_two (λ x. not (married s x)) q v w (names s.network) among.once (λ x h. within x (not-true (married s x) h))
+    (record { there = ends.0; was = here; gone = λ h. true≢false (sym (married_from s v w good at back) ∙ not-true (married s v) h) })
+    (record { there = ends.1; was = also; gone = λ h. true≢false (sym (married_from s w v good back at) ∙ not-true (married s w) h) })
+    (among.apart v w at)
 
 married_two : (s : State) → IsState s → (v : ℕ) → married s v ≡ true → unmarried_nodes s + 2 ≤ node_count s.network
 married_two s good v wed =
     let pair = married_some s v wed in
-    let among = among_from s good in
-    let ends = among.ends v pair.0 pair.1 in
-    let less = count_less_two (λ x. not (married s x)) (λ x. true) v pair.0 (names s.network) among.once (λ x h. refl)
-    (record { there = ends.0; was = refl; gone = λ h. true≢false (sym wed ∙ not-true (married s v) h) })
-    (record { there = ends.1; was = refl; gone = λ h. true≢false (sym (married_from s pair.0 v good pair.2 pair.1) ∙ not-true (married s pair.0) h) })
-    (among.apart v pair.0 pair.1) in
-    let all = count_all (names s.network) in
-    omega (arith, less, all)
+    omega (arith, pair_counted s good (λ x. true) v pair.0 pair.1 pair.2 (λ x h. refl) refl refl, count_all (names s.network))
 
 -- two nodes are married, or none is
 pub married_or_not : (s : State) → IsState s → (unmarried_nodes s + 2 ≤ node_count s.network) ⊎ ((v : ℕ) → married s v ≡ false)
@@ -50,15 +53,7 @@ married_or_not s good =
 
 module _ (t : RuleTable) (asks : AsksForWork t) (s s' : State) (moves : List Moved) (good : IsState s) (done : IsDone t s s' moves) where
   pair_kept : (v w : ℕ) → pointer s v ≡ Some w → pointer s w ≡ Some v → pointer s' v ≡ Some w
-  pair_kept v w at back = by_deed (done.deeds v)
-    where
-      by_deed : Deed t s s' moves v → pointer s' v ≡ Some w
-      by_deed (idles none e f) = e ∙ at
-      by_deed (updates goes guard e f) = e ∙ at
-      by_deed (marries u goes guard allowed e f) = absurd (none-some w (sym (asks.marry s v guard).0 ∙ at))
-      by_deed (seduces u goes guard allowed e f) = absurd (none-some w (sym (asks.seduce s v guard).0 ∙ at))
-      by_deed (abandons goes guard e f) =
-          let aim = asks.abandon s v guard in absurd (aim.2 (ap (pointer s) (same_Some aim.0 w (sym aim.1 ∙ at)) ∙ back))
+  pair_kept v w at back = grind (arith, done.deeds v, none-some, same_Some)
 
   pub married_stays : (v : ℕ) → married s v ≡ true → married s' v ≡ true
   married_stays v wed =
@@ -71,19 +66,12 @@ module _ (t : RuleTable) (asks : AsksForWork t) (s s' : State) (moves : List Mov
   new_pair : (v : ℕ) → married s v ≡ false → married s' v ≡ true → unmarried_nodes s' + 2 ≤ unmarried_nodes s
   new_pair v single wed =
       let pair = married_some s' v wed in
-      let among = among_from s' done.is_state in
-      let ends = among.ends v pair.0 pair.1 in
-      let back = married_from s' pair.0 v done.is_state pair.2 pair.1 in
-      let less = count_less_two (λ x. not (married s' x)) (λ x. not (married s x)) v pair.0 (names s'.network) among.once
-      (λ x h. not_from_false (married s x) (single_was x (not-true (married s' x) h)))
-      (record { there = ends.0; was = not_from_false (married s v) single; gone = λ h. true≢false (sym wed ∙ not-true (married s' v) h) })
-      (record { there = ends.1; was = not_from_false (married s pair.0) (other pair.0 pair.2 pair.1); gone = λ h. true≢false (sym back ∙ not-true (married s' pair.0) h) })
-      (among.apart v pair.0 pair.1) in
+      let two = pair_counted s' done.is_state (λ x. not (married s x)) v pair.0 pair.1 pair.2 (λ x h. not_from_false (married s x) (single_was x h)) (not_from_false (married s v) single) (not_from_false (married s pair.0) (other pair.0 pair.2)) in
       let same = ap (λ net. count_by (λ x. not (married s x)) (names net)) done.network in
-      omega (arith, less, same)
+      omega (arith, two, same)
     where
-      other : (w : ℕ) → pointer s' w ≡ Some v → pointer s' v ≡ Some w → married s w ≡ false
-      other w back at = false_from_ne_true (married s w) (λ h.
+      other : (w : ℕ) → pointer s' w ≡ Some v → married s w ≡ false
+      other w back = false_from_ne_true (married s w) (λ h.
           let old = married_some s w h in
           let same : old.0 ≡ v = same_Some old.0 v (sym (pair_kept w old.0 old.1 old.2) ∙ back) in
           true≢false (sym (married_from s v w good (ap (pointer s) (sym same) ∙ old.2) (old.1 ∙ ap Some same)) ∙ single))

@@ -44,26 +44,18 @@ after_move t s v target value p spent k k' todo todo' counts rest = record {
       rest.counts;
 }
 
+-- the same run with another count
+again : (t : RuleTable) (spent : ℕ) (s : State) (todo todo' : ℕ → Type 0) (k k' : ℕ) (it : Plays t spent s todo k) → ((xs : List ℕ) → IsWithin xs (enabled_names t s) → ((v : ℕ) → IsIn v xs → todo' v) → k' ≤ rounds_from t s xs it.log) → Plays t spent s todo' k'
+again t spent s todo todo' k k' it counts = record { log = it.log; last = it.last; run = it.run; calm = it.calm; counts = counts }
+
 abbrev pub Rounds : RuleTable → ℕ → State → (ℕ → Type 0) → ℕ → ℕ → Type 0
 Rounds t spent s todo q k = Plays t spent s todo k
 
 pub rounds_game : (t : RuleTable) → IsGame t (Rounds t)
 rounds_game t = record {
   at_once = λ spent s todo. record { log = []; last = record { state = s; spent = spent }; run = refl; calm = All-nil (λ e. e.1 ≢ Accepted); counts = λ xs near all. omega arith };
-  less = λ spent s todo q q' k k' le few it. record {
-    log = it.log;
-    last = it.last;
-    run = it.run;
-    calm = it.calm;
-    counts = λ xs near all. let counts = it.counts xs near all in omega (arith, counts, few);
-  };
-  among = λ spent s todo todo' q k more it. record {
-    log = it.log;
-    last = it.last;
-    run = it.run;
-    calm = it.calm;
-    counts = λ xs near all. it.counts xs near (λ v there. more v (near v there) (all v there));
-  };
+  less = λ spent s todo q q' k k' le few it. again t spent s todo todo k k' it (λ xs near all. let counts = it.counts xs near all in omega (arith, counts, few));
+  among = λ spent s todo todo' q k more it. again t spent s todo' todo k k it (λ xs near all. it.counts xs near (λ v there. more v (near v there) (all v there)));
   goes_on = λ s v target value p spent q k todo todo' more it. after_move t s v target value p spent k k todo todo'
       (λ log xs near all counts. on_counts t (then s p.m) log todo' k xs near (λ u there. more u (all u there).0 (all u there).1) counts) it;
   ends = λ s v target value p spent q k todo none it. after_move t s v target value p spent (k + 1) k todo anyone

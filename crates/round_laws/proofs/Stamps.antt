@@ -1,5 +1,5 @@
 -- Rounds by stamps are rounds by pending nodes: a node waits exactly if it is pending.
-use Rattle.round_laws.proofs.Prelude.{◌≡◌, ◌≢◌, ℕ, ◌+◌, ◌<◌, ◌≤◌, Bool, false, cond, not, ◌&&◌, ◌||◌, List, [], ◌∷◌, count_by, is_some, is_none, Option, nat_lt, IsTrue, refl, sym, ap, ◌∙◌, subst, inl, ⊎_elim, arith, and_from, and_parts, cases_lt, not-true, not_from_false, eq-eqb, ne_eqb, ltb-true, lt-ltb, All-head, All-tail, Act, Moved, Event, Reply, Accepted, Moves, names, State, RuleTable, rule_at, enabled_names, Entry, followed, IsUndisturbed, IsIn, names_without_repeats, is_mover_in, stays_pending, round_turn, rounds_from, rounds_in, count_one, count_exists}
+use Rattle.round_laws.proofs.Prelude.{◌≡◌, ◌≢◌, ℕ, ◌+◌, ◌<◌, ◌≤◌, Bool, false, cond, not, ◌&&◌, ◌||◌, List, [], ◌∷◌, count_by, is_some, is_none, Option, nat_lt, IsTrue, refl, sym, ap, ◌∙◌, subst, inl, ⊎_elim, arith, and_from, and_parts, cases_lt, not-true, not_from_false, eq-eqb, ne_eqb, ltb-true, lt-ltb, All-head, All-tail, Act, Moved, Event, Reply, Accepted, Moves, names, State, RuleTable, rule_at, enabled_names, Entry, followed, IsUndisturbed, IsIn, names_without_repeats, is_mover_in, stays_pending, round_turn, rounds_from, rounds_in, one_count, count_exists}
 use Rattle.round_laws.proofs.Counting.{left, in_kept}
 use Rattle.round_laws.proofs.Compare.{kept_in, left_is}
 use Rattle.round_laws.specs.Stamps.{is_waiting, stamps_after, round_after, round_from, round_reached, cut_by, cuts_in}
@@ -58,7 +58,7 @@ none_waits t s round stamp none =
 
 one_waits : (t : RuleTable) (s : State) (round : ℕ) (stamp : ℕ → ℕ) (v : ℕ) → IsTrue (is_waiting t s round stamp v) → IsIn v (names s.network) → round_after t s round stamp ≡ round
 one_waits t s round stamp v waits there =
-    let one = count_one (is_waiting t s round stamp) v (names s.network) (names_without_repeats s.network) there waits in
+    let one = one_count (is_waiting t s round stamp) (names s.network) v there waits in
     ap (λ b. cond b (round + 1) round) (ne_eqb (count_by (is_waiting t s round stamp) (names s.network)) 0 (λ none. absurd (omega (arith, one, none))))
 
 -- ---- a log

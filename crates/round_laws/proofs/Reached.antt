@@ -1,16 +1,37 @@
--- For each n some run of n nodes by Manne's rules completes n + 2 * (n / 2) rounds.
-use Rattle.dense_laws.proofs.Prelude.{◌≡◌, ℕ, ◌+◌, ◌*◌, ◌/◌, ◌<◌, ◌≤◌, nat_le, false, replicate, Option, None, IsTrue, sym, ap, ◌∙◌, ⊎_elim, arith, range_with_len, cases_lt, true≢false, le-leb, length-replicate, get_or_past, length-map-range_with_len, get_or-map-range_with_len, none-some, linked, node_count, present, State, IsState, pointer, if_some_from}
+-- Runs with as many rounds as any: for each n of 3 or more n rounds by Hsu and Huang's rules, and for each n by
+-- Manne's rules n + 2 * (n / 2).
+use Rattle.dense_laws.proofs.Prelude.{hsu_huang, ◌-◌, subst, ◌≡◌, ℕ, ◌+◌, ◌*◌, ◌/◌, ◌<◌, ◌≤◌, nat_le, false, replicate, Option, None, IsTrue, sym, ap, ◌∙◌, ⊎_elim, arith, range_with_len, cases_lt, true≢false, le-leb, length-replicate, get_or_past, length-map-range_with_len, get_or-map-range_with_len, none-some, linked, node_count, present, State, IsState, pointer, if_some_from}
 use Rattle.std.proofs.Common.{map as list_map, get_or}
 use Rattle.std.proofs.lemmas.Bool.{leb-true}
 use Rattle.std.proofs.lemmas.List.{get_or-replicate}
 use Rattle.rule_machine.specs.State.{flag}
 use Rattle.round_laws.proofs.Prelude.{manne}
-use Rattle.round_laws.proofs.Manne.{rounds_are_few}
-use Rattle.round_laws.proofs.Plays.{reached}
-use Rattle.dense_laws.proofs.CompleteNetworks.{up_to, up_to_good, up_to_size, up_to_is_complete, complete_count}
-use Rattle.dense_laws.proofs.Schedule.{IsAt}
+use Rattle.round_laws.proofs.HsuHuang.{rounds_are_few as hsu_huang_few}
+use Rattle.round_laws.proofs.Manne.{rounds_are_few as manne_few}
+use Rattle.round_laws.proofs.Plays.{Rounds, rounds_game, reached}
+use Rattle.dense_laws.proofs.CompleteNetworks.{up_to, up_to_good, up_to_size, up_to_is_complete, complete_count, cycle, cycle_is_state, cycle_is_cycle}
+use Rattle.dense_laws.proofs.Schedule.{IsAt, from_cycle}
 use Rattle.round_laws.proofs.ManneSchedule.{IsRaw, from_raw}
 use Rattle.round_laws.specs.LongRuns.{HasRun}
+
+-- ---- Hsu and Huang
+
+by_cycle : (k : ℕ) → HasRun hsu_huang (k + 3) (k + 3)
+by_cycle k =
+    reached hsu_huang (k + 3) (k + 3) (cycle (k + 3)) good nodes
+    (λ log last run calm. let most = hsu_huang_few (record { state = cycle (k + 3); spent = 0 }) good log last run calm in omega (arith, most, nodes))
+    (from_cycle (Rounds hsu_huang) (rounds_game hsu_huang) k 0 (cycle (k + 3)) (cycle_is_cycle (k + 3) (omega arith)))
+  where
+    good : IsState (cycle (k + 3))
+    good = cycle_is_state (k + 3) (omega arith)
+
+    nodes : node_count (cycle (k + 3)).network ≡ k + 3
+    nodes = complete_count (up_to (k + 3) (k + 3)) (k + 3) (up_to_size (k + 3) (k + 3)) (up_to_is_complete (k + 3))
+
+pub hsu_huang_reached : (n : ℕ) → 3 ≤ n → HasRun hsu_huang n n
+hsu_huang_reached n three = subst (λ x. HasRun hsu_huang x x) (let is : n - 3 + 3 ≡ n = omega (arith, three) in is) (by_cycle (n - 3))
+
+-- ---- Manne
 
 -- all n nodes are null and flagged
 abbrev raw : ℕ → State
@@ -20,10 +41,7 @@ raw n = record {
 }
 
 raw_null : (n v : ℕ) → pointer (raw n) v ≡ None
-raw_null n v = blank_null (n + 1) v
-  where
-    blank_null : (m v : ℕ) → get_or {A = Option ℕ} (replicate m None) v None ≡ None
-    blank_null m v = grind (arith, get_or-replicate, get_or_past, length-replicate, cases_lt)
+raw_null n v = grind (arith, get_or-replicate, get_or_past, length-replicate, cases_lt)
 
 raw_within : (n v : ℕ) → v ≤ n → flag (raw n) v ≡ nat_le 1 v
 raw_within n v le = get_or-map-range_with_len (nat_le 1) 0 (n + 1) v v false (omega (arith, le)) (omega arith)
@@ -54,10 +72,10 @@ raw_begins n = record {
   shape = record { null = raw_null n; unset = λ v low high. absurd (omega (arith, low, high)); set = λ v low high. raw_within n v high ∙ le-leb 1 v (omega (arith, low)) };
 }
 
-pub bound_is_reached : (n : ℕ) → HasRun manne n (n + 2 * (n / 2))
-bound_is_reached n =
+pub manne_reached : (n : ℕ) → HasRun manne n (n + 2 * (n / 2))
+manne_reached n =
     reached manne n (n + 2 * (n / 2)) (raw n) (raw_is_state n) nodes
-    (λ log last run calm. let most = rounds_are_few (record { state = raw n; spent = 0 }) (raw_is_state n) log last run calm in let same = ap (λ x. x + 2 * (x / 2)) nodes in omega (arith, most, same))
+    (λ log last run calm. let most = manne_few (record { state = raw n; spent = 0 }) (raw_is_state n) log last run calm in let same = ap (λ x. x + 2 * (x / 2)) nodes in omega (arith, most, same))
     (from_raw n 0 (raw n) (raw_begins n))
   where
     nodes : node_count (raw n).network ≡ n
