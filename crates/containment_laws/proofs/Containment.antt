@@ -88,7 +88,7 @@ calm_rests t asks inside s good n event reply s' answers calm v rest = by_effect
     by_effect (rests same none keeps) = (none_moves v reply none, subst (λ u. IsAtRest t.flags u v) (sym same) rest, (ap (λ u. pointer u v) same, ap (λ u. flag u v) same))
     by_effect (steps items moves is step) =
         let here = step_rests t asks inside s good items moves s' step v rest in
-        (ap (moves_at v) is ∙ here.idle, here.rests, (here.stays.pointer_is, here.stays.flag_is))
+        (ap (moves_at v) is ∙ here.0, here.2, here.1)
     by_effect (disturbs is) = absurd (calm is)
 
 -- and each pair stays

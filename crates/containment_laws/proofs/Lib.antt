@@ -6,7 +6,6 @@ pub mod Edits
 pub mod Containment
 pub mod Partings
 pub mod Proved
-pub mod NearReach
 pub mod ExactReach
 pub mod ReachSize
 pub mod LostPairs

@@ -1,9 +1,11 @@
--- How many nodes a disturbance can reach: a degree or two, whatever the size of the network.
-use Rattle.containment_laws.proofs.Prelude.{◌≡◌, ℕ, ◌+◌, ◌≤◌, Bool, true, false, cond, not, ◌&&◌, ◌||◌, [], ◌∷◌, count_by, nat_eq, Option, None, Some, is_some, find, IsTrue, refl, sym, ap, ◌∙◌, subst, inl, inr, ◌⊎◌, ⊎_elim, arith, true≢false, and_parts, or_cases, eqb-true, eq-eqb, not-true, false_from_ne_true, same_Some, Event, Link, Unlink, Point, Flag, Leave, Network, linked, neighbours, names, State, IsState, pointer, married, is_mutual, linked_back, linked_present, near_some, some_is, pointer_linked, married_some, married_from, IsIn, degree, degree_at, none_count, once, in_names, names_without_repeats, is_parted, is_hit, is_in_reach, ReachIsSmall}
+-- How many nodes a disturbance can reach: a degree or two, whatever the size of the network. They are near the nodes
+-- that it names.
+use Rattle.containment_laws.proofs.Prelude.{◌≡◌, ℕ, ◌+◌, ◌≤◌, Bool, true, false, cond, not, ◌&&◌, ◌||◌, [], ◌∷◌, count_by, nat_eq, Option, None, Some, is_some, find, IsTrue, refl, sym, ap, ◌∙◌, subst, inl, inr, ◌⊎◌, ⊎_elim, arith, true≢false, and_parts, or_cases, eqb-true, eq-eqb, not-true, false_from_ne_true, same_Some, Event, Link, Unlink, Point, Flag, Leave, Network, linked, neighbours, names, State, IsState, pointer, married, is_mutual, linked_back, linked_present, near_some, some_is, pointer_linked, married_some, married_from, IsIn, degree, degree_at, none_count, once, in_names, names_without_repeats, is_parted, is_hit, is_in_reach, ReachIsSmall, Any, named_by, IsWithinTwo, ReachIsNear}
 use Rattle.machine_laws.proofs.ListCounts.{count_among, count_le, count_or, count_split, at_most_one, one_count}
 use Rattle.machine_laws.proofs.Members.{in_kept}
 use Rattle.std.proofs.lemmas.Bool.{and_from, or_left, or_right}
 use Rattle.containment_laws.proofs.Edits.{mutual_is}
+use Rattle.containment_laws.proofs.LostPairs.{in_contains}
 use Rattle.containment_laws.proofs.Partings.{main_node, parted_near}
 
 -- ---- counts
@@ -133,3 +135,27 @@ reach_is_small s good (Flag v value) =
     one_few s.network (is_in_reach s (Flag v value)) v (λ x h. eqb-true x v (and_parts (nat_eq x v) (cond (married s v) (not value) value) (only_hit s (Flag v value) (λ y. never refl) x h)).0)
 reach_is_small s good (Leave v) = leave_few s v good (married s v) refl
 reach_is_small s good event = nobody_few s event (λ x. never refl) (λ x. never refl)
+
+-- ---- where they are
+
+hit_named : (s : State) (event : Event) (v : ℕ) → is_hit s event v ≡ true → IsIn v (named_by event)
+hit_named s event v h = grind (arith, eqb-true, or_cases, and_parts)
+
+any_named : (s : State) (event : Event) (v a : ℕ) → IsIn a (named_by event) → IsWithinTwo s.network a v → Any (λ x. IsWithinTwo s.network x v) (named_by event)
+any_named s event v a named near = let there = in_contains a (named_by event) named in (there.0, a, there.1, there.2, near)
+
+pub reach_is_near : ReachIsNear
+reach_is_near s good event v h =
+    ⊎_elim
+    (λ hit. any_named s event v v (hit_named s event v hit) (inl refl))
+    (⊎_elim
+    (λ parted. let near = parted_near s event v parted in
+    any_named s event v (main_node event) near.0 (⊎_elim inl (λ at. inr (inl (pointer_linked s (main_node event) v good at))) near.1))
+    (λ beside.
+    let near = parted_near s event beside.1.0 beside.1.2 in
+    any_named s event v (main_node event) near.0
+    (⊎_elim
+    (λ same. inr (inl (subst (λ x. IsTrue (linked s.network x v)) same beside.1.1)))
+    (λ at. inr (inr (beside.1.0, pointer_linked s (main_node event) beside.1.0 good at, beside.1.1)))
+    near.1)))
+    (reach_cases s event v h)

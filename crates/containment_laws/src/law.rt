@@ -21,7 +21,7 @@ pub fn stable_is_rest()
 {}
 
 /// No rule is enabled at a node at rest.
-#[tactic(auto, using(crate::proofs::Proved::rest_is_idle, crate::proofs::Proved::contains_from))]
+#[tactic(auto, using(crate::proofs::IdleNodes::at_rest_idle))]
 pub fn rest_is_idle()
     ensures { (t : RuleTable) → IsTable t → AsksForWork t → RestIsIdle t }
 {}
@@ -101,7 +101,7 @@ pub fn movers_are_accounted_for()
 {}
 
 /// A run loses at most one pair of its start for each disturbance that parts a pair.
-#[tactic(auto, using(crate::proofs::Proved::pairs_are_accounted_for, crate::proofs::Proved::contains_from))]
+#[tactic(auto, using(crate::proofs::LostPairs::path_lost, crate::proofs::IdleNodes::inside_from))]
 pub fn pairs_are_accounted_for()
     ensures { (t : RuleTable) → IsTable t → AsksForWork t → PairsAreAccountedFor t }
 {}
@@ -113,7 +113,7 @@ pub fn pairs_are_left()
 {}
 
 /// The containment radius is 2: the reach of an event is within two links of the nodes it names.
-#[tactic(auto, using(crate::proofs::NearReach::reach_is_near))]
+#[tactic(auto, using(crate::proofs::ReachSize::reach_is_near))]
 pub fn reach_is_near()
     ensures { ReachIsNear }
 {}
@@ -121,7 +121,7 @@ pub fn reach_is_near()
 /// In a stable network, after the disturbance, no node in the reach is at rest. Not each may move.
 ///
 /// One exception, if flags are not used: a parted node whose neighbours were all married may be at rest.
-#[tactic(auto, using(crate::proofs::Proved::reach_is_exact, crate::proofs::Proved::contains_from))]
+#[tactic(auto, using(crate::proofs::ExactReach::reach_is_exact))]
 pub fn reach_is_exact()
     ensures { (t : RuleTable) → IsTable t → AsksForWork t → ReachIsExact t }
 {}
