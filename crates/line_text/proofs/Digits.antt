@@ -1,5 +1,6 @@
 -- Digits at the front of a text, and the names that they say.
-use Rattle.line_text.proofs.Prelude.{◌≡◌, ℕ, zero, suc, ◌+◌, ◌<◌, ◌≤◌, List, [], ◌∷◌, ◌++◌, length, get_or, take, drop, refl, sym, ap, subst, ◌∙◌, append_assoc, arith, slice_index, IsInRange, AllDigits, digits_value, append-nil, take-append-drop, length-take-le, get_or-drop, get_or-take, IsNumeralModel, numerals_by_value, tells_digits, digit_from_value, digits_decimal, digits_value-decimal, decimal-digits_value, decimal_injective, decimal_nonempty, length-decimal-le, first_decimal, number_text, IsName, NoDigit, NameThen, WordThen}
+use Rattle.line_text.proofs.Prelude.{◌≡◌, ℕ, zero, suc, ◌+◌, ◌<◌, ◌≤◌, List, ◌∷◌, ◌++◌, length, get_or, take, drop, refl, sym, ap, subst, ◌∙◌, append_assoc, arith, slice_index, IsInRange, AllDigits, digits_value, append-nil, take-append-drop, length-take-le, get_or-drop, get_or-take, IsNumeralModel, numerals_by_value, tells_digits, digit_from_value, digits_decimal, digits_value-decimal, decimal-digits_value, decimal_injective, decimal_nonempty, length-decimal-le, number_text, IsName, NoDigit, NameThen, WordThen, []}
+use Rattle.line_text.specs.ReadBack.{IsReadBack}
 
 -- std's words for digits and for their number
 pub own : IsNumeralModel (AllDigits 10) (digits_value 10)
@@ -19,42 +20,40 @@ run_once (c ∷ ds) (d ∷ es) x y a b p q e =
     let t = run_once ds es x y a.1 b.1 p q h.1 in
     (cc, t.1)
 
--- a name is digits
-pub name_digits : (n : ℕ) → IsName n → AllDigits 10 (number_text n)
-name_digits n h = digits_decimal own n (omega arith)
+-- what follows begins with no digit
+abbrev pub Undigited : {X : Type 0} → X → List ℕ → Type 0
+Undigited x rest = NoDigit rest
+
+-- a number that no digit follows is read back
+pub number_back : IsReadBack (λ n. n < 18446744073709551616) number_text Undigited
+number_back = record {
+  once = λ m n r s f g a b e.
+      let same = run_once (number_text m) (number_text n) r s (digits_decimal own m (omega (arith, f))) (digits_decimal own n (omega (arith, g))) a b e in
+      (decimal_injective m n (omega (arith, f)) (omega (arith, g)) same.0, same.1);
+}
+
+pub name_back : IsReadBack IsName number_text Undigited
+name_back = record { once = λ m n r s f g a b e. number_back.once m n r s (omega (arith, f.1)) (omega (arith, g.1)) a b e }
 
 -- a name that no digit follows is one name
 pub name_once : (bytes : List ℕ) (m n : ℕ) (x y : List ℕ) → NameThen bytes m x → NameThen bytes n y → (m ≡ n) × (x ≡ y)
-name_once bytes m n x y a b =
-    let f = a.fits in
-    let g = b.fits in
-    let r = run_once (number_text m) (number_text n) x y (name_digits m f) (name_digits n g) a.ends b.ends (sym a.is ∙ b.is) in
-    (decimal_injective m n (omega arith) (omega arith) r.0, r.1)
+name_once bytes m n x y a b = name_back.once m n x y a.fits b.fits a.ends b.ends (sym a.is ∙ b.is)
 
--- the digits of the name at the front are the longest run of digits there
-pub name_is_run : (bytes : List ℕ) (len n : ℕ) (rest : List ℕ) → AllDigits 10 (take len bytes) → NoDigit (drop len bytes) → NameThen bytes n rest → (take len bytes ≡ number_text n) × (drop len bytes ≡ rest)
-name_is_run bytes len n rest d e h =
-    run_once (take len bytes) (number_text n) (drop len bytes) rest d (name_digits n h.fits) e h.ends (take-append-drop len bytes ∙ h.is)
+-- what a number says of the run of digits at the front, if no digit follows it
+pub run_facts : (bytes : List ℕ) (len n : ℕ) (rest : List ℕ) → n < 18446744073709551616 → len ≤ length bytes → AllDigits 10 (take len bytes) → NoDigit (drop len bytes) → NoDigit rest → bytes ≡ number_text n ++ rest → (0 < len) × (len ≡ length (number_text n)) × (get_or bytes 0 0 ≡ get_or (number_text n) 0 0) × (digits_value 10 (take len bytes) ≡ n)
+run_facts bytes len n rest small le d e ends is =
+    let r = run_once (take len bytes) (number_text n) (drop len bytes) rest d (digits_decimal own n small) e ends (take-append-drop len bytes ∙ is) in
+    let same : len ≡ length (number_text n) = sym (length-take-le len bytes le) ∙ ap length r.0 in
+    let some : 0 < len = omega (arith, decimal_nonempty n small) in
+    (some, same, sym (get_or-take len bytes 0 0 some) ∙ ap (λ (z : List ℕ). get_or z 0 0) r.0, ap (digits_value 10) r.0 ∙ digits_value-decimal own n small)
 
--- what a name says of the run of digits at the front
-pub name_facts : (bytes : List ℕ) (len n : ℕ) (rest : List ℕ) → len ≤ length bytes → AllDigits 10 (take len bytes) → NoDigit (drop len bytes) → NameThen bytes n rest → (0 < len) × (len ≤ 5) × (48 < get_or bytes 0 0) × (digits_value 10 (take len bytes) ≡ n)
-name_facts bytes len n rest le d e h =
-    let f = h.fits in
-    let r = name_is_run bytes len n rest d e h in
-    let k : length (take len bytes) ≡ len = length-take-le len bytes le in
-    let same : len ≡ length (number_text n) = sym k ∙ ap length r.0 in
-    let some : 0 < len = omega (arith, decimal_nonempty n (omega arith)) in
-    let first : get_or bytes 0 0 ≡ get_or (number_text n) 0 0 = sym (get_or-take len bytes 0 0 some) ∙ ap (λ (z : List ℕ). get_or z 0 0) r.0 in
-    (some, omega (arith, length-decimal-le 5 n (omega arith) (omega arith) (omega arith)), omega (arith, first_decimal n (omega arith) (omega arith)), ap (digits_value 10) r.0 ∙ digits_value-decimal own n (omega arith))
-
--- a short run of digits that begins with no 0 is a name, if its number is one
-pub found_name : (bytes : List ℕ) (len n : ℕ) → len ≤ length bytes → 0 < len → AllDigits 10 (take len bytes) → NoDigit (drop len bytes) → (get_or bytes 0 0 ≡ 48 → ⊥) → digits_value 10 (take len bytes) ≡ n → IsName n → NameThen bytes n (drop len bytes)
-found_name bytes len n le some d e lead v f =
+-- a run of digits is the text of its number, if it begins with no 0 or is one
+pub run_found : (bytes : List ℕ) (len n : ℕ) → len ≤ length bytes → 0 < len → AllDigits 10 (take len bytes) → (get_or bytes 0 0 ≡ 48 → len ≤ 1) → n ≡ digits_value 10 (take len bytes) → n < 18446744073709551616 → bytes ≡ number_text n ++ drop len bytes
+run_found bytes len n le some d lead v small =
     let k : length (take len bytes) ≡ len = length-take-le len bytes le in
     let first : get_or (take len bytes) 0 0 ≡ get_or bytes 0 0 = get_or-take len bytes 0 0 some in
-    let back : number_text (digits_value 10 (take len bytes)) ≡ take len bytes = decimal-digits_value own (take len bytes) d (omega arith) (λ z. absurd (lead (sym first ∙ z))) (omega arith) in
-    let text : number_text n ≡ take len bytes = ap number_text (sym v) ∙ back in
-    record { fits = f; ends = e; is = sym (take-append-drop len bytes) ∙ ap (λ (z : List ℕ). z ++ drop len bytes) (sym text) }
+    let back : number_text (digits_value 10 (take len bytes)) ≡ take len bytes = decimal-digits_value own (take len bytes) d (omega arith) (λ z. omega (arith, lead (sym first ∙ z))) (omega arith) in
+    sym (take-append-drop len bytes) ∙ ap (λ (z : List ℕ). z ++ drop len bytes) (sym back ∙ ap number_text (sym v))
 
 -- a name that ends the text
 pub NameThen-last : (bytes : List ℕ) (n : ℕ) → IsName n → bytes ≡ number_text n → NameThen bytes n []

@@ -1,12 +1,8 @@
 -- A line spells at most one event.
-use Rattle.line_text.proofs.Prelude.{◌≡◌, ℕ, ◌+◌, ◌*◌, Bool, List, ◌∷◌, Option, get_or, refl, sym, ap, ◌∙◌, arith, IfSome, IsInRange, append_cancel_left, Item, Event, Link, Unlink, Point, Flag, Step, Show, Enabled, Matching, Status, Join, Leave, IsName, spaced, IsEvent, Spells, event_text, pair_text, point_text, flag_text, item_text, NoDigit}
+use Rattle.line_text.proofs.Prelude.{◌≡◌, ℕ, ◌+◌, ◌*◌, Bool, List, Option, get_or, refl, sym, ap, ◌∙◌, arith, IfSome, append_cancel_left, Item, Event, Link, Unlink, Point, Flag, Step, Show, Enabled, Matching, Status, Join, Leave, IsName, spaced, IsEvent, Spells, event_text, pair_text, point_text, flag_text, item_text}
 use Rattle.std.specs.Prelude.{codes}
-use Rattle.line_text.proofs.Grammars.{IsReadBack, Always, Undigited, alone, after_word, apart_by, bool_back, name_back, nothing_ends, spaced_back, target_back}
+use Rattle.line_text.proofs.Grammars.{IsReadBack, Always, Undigited, alone, after_word, apart_by, bool_back, name_back, nothing_ends, space_ends, spaced_back, target_back}
 use Rattle.line_text.proofs.ItemsOnce.{item_back, items_end}
-
--- a space ends a name
-space_ends : (name : ℕ) (r : List ℕ) → NoDigit (32 ∷ r)
-space_ends name r = λ (p : IsInRange 48 57 32). omega (arith, p.0)
 
 pair_back : IsReadBack (λ (p : ℕ × ℕ). IsName p.0 × IsName p.1) (λ p. pair_text p.0 p.1) Undigited
 pair_back = apart_by 32 name_back name_back space_ends

@@ -1,15 +1,12 @@
 -- Grammars by combinators: when a text, and what follows it, are read back in one way.
-use Rattle.line_text.proofs.Prelude.{◌≡◌, ℕ, ◌<◌, List, [], ◌∷◌, ◌++◌, length, Option, None, Some, Bool, true, false, get_or, refl, sym, ap, ap₂, subst, ◌∙◌, append_assoc, arith, IfSome, slice_index, IsInRange, AllByRecursion, AllDigits, append_cancel_left, decimal_injective, decimal_nonempty, digits_decimal, digit_from_value, number_text, IsName, marked_text, spaced, joined_texts, joined_or, lines_with_ends, target_text, bool_text, NoDigit, ItemEnds}
+use Rattle.line_text.proofs.Prelude.{◌≡◌, ℕ, zero, ◌<◌, List, ◌∷◌, ◌++◌, length, Option, None, Some, Bool, true, false, get_or, refl, sym, ap, ap₂, subst, ◌∙◌, append_assoc, arith, IfSome, slice_index, IsInRange, AllByRecursion, AllDigits, append_cancel_left, decimal_nonempty, digits_decimal, digit_from_value, number_text, IsName, marked_text, spaced, joined_texts, joined_or, lines_with_ends, target_text, bool_text, NoDigit, ItemEnds, []}
 pub use Rattle.line_text.specs.ReadBack.{IsReadBack}
-use Rattle.line_text.proofs.Digits.{own, run_once, cons_parts, name_digits}
+pub use Rattle.line_text.proofs.Digits.{Undigited, number_back, name_back}
+use Rattle.line_text.proofs.Digits.{own, cons_parts}
 
 -- whatever follows ends the text
 abbrev pub Always : {X : Type 0} → X → List ℕ → Type 0
 Always x rest = Unit {0}
-
--- what follows begins with no digit
-abbrev pub Undigited : {X : Type 0} → X → List ℕ → Type 0
-Undigited x rest = NoDigit rest
 
 -- ---- from one grammar to another
 
@@ -66,21 +63,15 @@ apart_by {X} {Y} {fits} {own} {text} {next} mark one two goes = record {
     split : (p : X × Y) (r : List ℕ) → (text p.0 ++ mark ∷ [] ++ next p.1) ++ r ≡ text p.0 ++ mark ∷ (next p.1 ++ r)
     split p r = append_assoc (text p.0 ++ mark ∷ []) (next p.1) r ∙ append_assoc (text p.0) (mark ∷ []) (next p.1 ++ r)
 
--- ---- numbers, names and flags
+-- ---- flags
 
 -- the end of the text ends a number
 pub nothing_ends : NoDigit []
 nothing_ends h = omega (arith, h.0)
 
-pub number_back : IsReadBack (λ n. n < 18446744073709551616) number_text Undigited
-number_back = record {
-  once = λ m n r s f g a b e.
-      let same = run_once (number_text m) (number_text n) r s (digits_decimal own m (omega (arith, f))) (digits_decimal own n (omega (arith, g))) a b e in
-      (decimal_injective m n (omega (arith, f)) (omega (arith, g)) same.0, same.1);
-}
-
-pub name_back : IsReadBack IsName number_text Undigited
-name_back = for_fewer IsName number_back (λ n h. omega (arith, h.1))
+-- so does a space
+pub space_ends : {X : Type 0} (x : X) (rest : List ℕ) → NoDigit (32 ∷ rest)
+space_ends x rest h = omega (arith, h.0)
 
 pub bool_back : IsReadBack (λ (b : Bool). Unit {0}) bool_text Always
 bool_back = record { once = once }
@@ -100,7 +91,7 @@ digital_on [] y h = absurd (h nothing_ends)
 digital_on (b ∷ x) y h = h
 
 pub name_digital : (n : ℕ) → IsName n → Digital (number_text n)
-name_digital n h = some (number_text n) (name_digits n h) (decimal_nonempty n (omega (arith, h.1)))
+name_digital n h = some (number_text n) (digits_decimal own n (omega (arith, h.1))) (decimal_nonempty n (omega (arith, h.1)))
   where
     some : (digits : List ℕ) → AllDigits 10 digits → 0 < length digits → Digital digits
     some [] all more = omega (arith, more)
@@ -147,10 +138,15 @@ wish_last None = (nothing_ends, λ e. omega (arith, e))
 wish_last (Some w) = nothing_ends
 
 pub wish_space : (wish : Option ℕ) (rest : List ℕ) → ItemEnds wish (32 ∷ rest)
-wish_space None rest = (λ (p : IsInRange 48 57 32). omega (arith, p.0), λ e. omega (arith, e))
-wish_space (Some w) rest = λ (p : IsInRange 48 57 32). omega (arith, p.0)
+wish_space None rest = (space_ends zero rest, λ e. omega (arith, e))
+wish_space (Some w) rest = space_ends w rest
 
 -- ---- lists
+
+-- what holds of each item of two lists holds of each item of both
+pub all_both : {X : Type 0} (P : X → Type 0) (xs ys : List X) → AllByRecursion P xs → AllByRecursion P ys → AllByRecursion P (xs ++ ys)
+all_both P [] ys f g = g
+all_both P (x ∷ xs) ys f g = (f.0, all_both P xs ys f.1 g)
 
 -- the end of the text, or a space, ends each item
 pub record EndsItem {X : Type 0} (ends : X → List ℕ → Type 0) : Type 0 where

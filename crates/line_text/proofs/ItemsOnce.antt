@@ -1,8 +1,8 @@
 -- Items at the front of a text.
-use Rattle.line_text.proofs.Prelude.{◌≡◌, ◌≢◌, ℕ, ◌+◌, ◌<◌, ◌≤◌, List, [], ◌∷◌, ◌++◌, length, Option, None, Some, refl, sym, ap, ◌∙◌, append_assoc, arith, slice_index, IfSome, AllByRecursion, append-nil, append_cancel_left, flat_map-append, Item, number_text, IsName, marked_text, spaced, IsItem, AreChoiceItems, item_text, NoDigit, NameThen, ItemEnds, ItemThen, SpellsChoice, HasItems}
-use Rattle.std.proofs.lemmas.List.{length-append}
+use Rattle.line_text.proofs.Prelude.{◌≡◌, ◌≢◌, ℕ, ◌+◌, ◌<◌, ◌≤◌, List, ◌∷◌, ◌++◌, length, Option, None, Some, refl, sym, ap, ◌∙◌, append_assoc, arith, slice_index, IfSome, AllByRecursion, append_cancel_left, Item, number_text, IsName, marked_text, spaced, IsItem, AreChoiceItems, item_text, NoDigit, NameThen, ItemEnds, ItemThen, SpellsChoice, []}
+use Rattle.std.proofs.lemmas.List.{length-append, flat_map_more}
 use Rattle.line_text.proofs.Digits.{name_once}
-use Rattle.line_text.proofs.Grammars.{IsReadBack, EndsItem, both, item_ends, name_back, through, wish_back, wish_ends, wish_last, wish_space}
+use Rattle.line_text.proofs.Grammars.{IsReadBack, EndsItem, all_both, both, item_ends, name_back, through, wish_back, wish_ends, wish_last, wish_space}
 
 -- the empty text is not a text with a byte
 pub nil_cons : {c : ℕ} {x : List ℕ} → [] ≡ c ∷ x → ⊥
@@ -60,15 +60,6 @@ pub record SoFar (bytes : List ℕ) (items : List Item) (rest : List ℕ) : Type
   pub read : bytes ≡ spaced item_text items ++ rest
   pub left : (all : List Item) → AllByRecursion IsItem all → bytes ≡ spaced item_text all → (more : List Item) × (all ≡ items ++ more) × AllByRecursion IsItem more × (rest ≡ spaced item_text more)
 
--- one more item that fits
-fits_push : (items : List Item) (item : Item) → AllByRecursion IsItem items → IsItem item → AllByRecursion IsItem (items ++ item ∷ [])
-fits_push [] item f g = (g, tt)
-fits_push (i ∷ is) item f g = (f.0, fits_push is item f.1 g)
-
--- the text of one more item
-spaced_push : (items : List Item) (item : Item) → spaced item_text (items ++ item ∷ []) ≡ spaced item_text items ++ (32 ∷ item_text item)
-spaced_push items item = flat_map-append (λ (i : Item). 32 ∷ item_text i) items (item ∷ []) ∙ ap (λ (z : List ℕ). spaced item_text items ++ z) (append-nil (32 ∷ item_text item))
-
 -- what is left after one more item
 left_behind : (rest : List ℕ) (item : Item) (behind : List ℕ) (more : List Item) → ItemThen rest item behind → AllByRecursion IsItem more → rest ≡ spaced item_text more → (others : List Item) × (more ≡ item ∷ others) × AllByRecursion IsItem others × (behind ≡ spaced item_text others)
 left_behind rest item behind [] h f e = absurd (nil_cons (sym e ∙ h.is))
@@ -79,8 +70,8 @@ left_behind rest item behind (i ∷ is) h f e =
 -- one more item was read
 pub SoFar-more : (bytes : List ℕ) (items : List Item) (rest : List ℕ) (item : Item) (behind : List ℕ) → SoFar bytes items rest → ItemThen rest item behind → SoFar bytes (items ++ item ∷ []) behind
 SoFar-more bytes items rest item behind s h = record {
-  fits = fits_push items item s.fits h.fits;
-  read = s.read ∙ ap (λ (z : List ℕ). spaced item_text items ++ z) h.is ∙ sym (append_assoc (spaced item_text items) (32 ∷ item_text item) behind) ∙ ap (λ (z : List ℕ). z ++ behind) (sym (spaced_push items item));
+  fits = all_both IsItem items (item ∷ []) s.fits (h.fits, tt);
+  read = s.read ∙ ap (λ (z : List ℕ). spaced item_text items ++ z) h.is ∙ sym (append_assoc (spaced item_text items) (32 ∷ item_text item) behind) ∙ ap (λ (z : List ℕ). z ++ behind) (flat_map_more (λ (i : Item). 32 ∷ item_text i) [] items item);
   left = λ all f e.
       let l = s.left all f e in
       let b = left_behind rest item behind l.0 h l.2 l.3 in
@@ -105,15 +96,6 @@ pub record Counted (bytes : List ℕ) (count : ℕ) (rest : List ℕ) : Type 0 w
   pub many : length items ≡ count
   pub few : count ≤ 65535
 
--- before the first item
-pub Counted-none : (bytes : List ℕ) → Counted bytes 0 bytes
-Counted-none bytes = record {
-  items = [];
-  so_far = record { fits = tt; read = refl; left = λ all f e. (all, refl, f, e) };
-  many = refl;
-  few = omega arith;
-}
-
 -- one more item was counted
 pub Counted-more : (bytes : List ℕ) (count : ℕ) (rest : List ℕ) (item : Item) (behind : List ℕ) → Counted bytes count rest → count < 65535 → ItemThen rest item behind → Counted bytes (count + 1) behind
 Counted-more bytes count rest item behind c few h =
@@ -125,31 +107,6 @@ Counted-more bytes count rest item behind c few h =
       few = omega arith;
     }
 
--- all items were counted
-pub Counted-all : (bytes : List ℕ) (count : ℕ) → Counted bytes count [] → HasItems bytes count
-Counted-all bytes count c =
-    let many = c.many in
-    let few = c.few in
-    (c.items, (omega (arith, many, few), c.so_far.fits), c.so_far.read ∙ append-nil (spaced item_text c.items), c.many)
-
--- this many items are a choice
-pub HasItems-choice : (bytes : List ℕ) (count : ℕ) → HasItems bytes count → SpellsChoice bytes
-HasItems-choice bytes count h = (h.0, h.1, h.2)
-
 -- no choice is spelled if the rest begins with no item
 pub Counted-stuck : (bytes : List ℕ) (count : ℕ) (rest : List ℕ) → Counted bytes count rest → rest ≢ [] → ((item : Item) (end : List ℕ) → ItemThen rest item end → ⊥) → SpellsChoice bytes → ⊥
 Counted-stuck bytes count rest c some none s = SoFar-stuck bytes c.items rest c.so_far some none s.0 s.1 s.2
-
--- what is left is not empty
-some_more : (rest : List ℕ) (more : List Item) → rest ≢ [] → rest ≡ spaced item_text more → 1 ≤ length more
-some_more rest [] some e = absurd (some e)
-some_more rest (i ∷ is) some e = omega arith
-
--- no choice is spelled if a rest is left after as many items as a choice holds
-pub Counted-full : (bytes : List ℕ) (rest : List ℕ) → Counted bytes 65535 rest → rest ≢ [] → SpellsChoice bytes → ⊥
-Counted-full bytes rest c some s =
-    let l = c.so_far.left s.0 s.1.1 s.2 in
-    let more : 1 ≤ length l.0 = some_more rest l.0 some l.3 in
-    let all : length s.0 ≡ length c.items + length l.0 = ap length l.1 ∙ length-append c.items l.0 in
-    let few : length s.0 ≤ 65535 = s.1.0 in
-    omega (arith, c.many, more, all, few)
