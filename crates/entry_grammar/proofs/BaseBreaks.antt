@@ -1,6 +1,7 @@
 -- The first line at which a text departs from the lines of a base.
-use Rattle.entry_grammar.proofs.Prelude.{◌≡◌, ℕ, zero, suc, ◌+◌, ◌<◌, ◌≤◌, List, [], ◌∷◌, ◌++◌, length, length-append, map, refl, sym, ap, ap₂, subst, ◌∙◌, append_assoc, arith, Result, Ok, Err, IfErr, IsErrAnd, AllByRecursion, flat_map-append, length-map, lines_with_ends, node_record_text, link_text, BaseLine, BaseNumbers, Base, Place, Link, IsOrderedPair, IsBaseLine, base_line_text, AreCounts, Starts, IsEdgeAbove, NodesRise, EdgesRise, IsPlace, node_key, place_line, EdgesFollow, NodesFollow, MayFollow, BreaksAt, numbers_text, last_key, NodesRead, NodesBreak, EdgesBreak}
+use Rattle.entry_grammar.proofs.Prelude.{◌≡◌, ℕ, zero, suc, ◌+◌, ◌<◌, ◌≤◌, List, ◌∷◌, ◌++◌, length, length-append, map, refl, sym, ap, ap₂, subst, ◌∙◌, append_assoc, arith, Result, Ok, Err, IfErr, IsErrAnd, AllByRecursion, flat_map-append, length-map, lines_with_ends, node_record_text, link_text, BaseLine, BaseNumbers, Base, Place, Link, IsOrderedPair, IsBaseLine, base_line_text, AreCounts, Starts, IsEdgeAbove, NodesRise, EdgesRise, IsPlace, node_key, place_line, EdgesFollow, NodesFollow, MayFollow, BreaksAt, numbers_text, last_key, NodesRead, NodesBreak, EdgesBreak, []}
 use Rattle.rule_machine.specs.declared.base.NodeRecord.{NodeRecord as PlaceKept}
+use Rattle.entry_grammar.proofs.Free.{all_both}
 
 abbrev pub place_lines : List PlaceKept → List BaseLine
 place_lines places = map place_line places
@@ -29,8 +30,7 @@ fit_edges [] f = tt
 fit_edges (edge ∷ edges) f = (f.0, fit_edges edges f.1)
 
 pub fit_both : (xs ys : List BaseLine) → AllByRecursion IsBaseLine xs → AllByRecursion IsBaseLine ys → AllByRecursion IsBaseLine (xs ++ ys)
-fit_both [] ys f g = g
-fit_both (x ∷ xs) ys f g = (f.0, fit_both xs ys f.1 g)
+fit_both = all_both IsBaseLine
 
 -- they follow, as far as they go
 

@@ -1,5 +1,5 @@
 -- The lines of a base.
-use Rattle.entry_grammar.proofs.Prelude.{◌≡◌, ℕ, ◌<◌, ◌≤◌, Bool, List, [], ◌∷◌, ◌++◌, None, Some, drop, get_or, refl, sym, ap, ◌∙◌, append_assoc, arith, codes, IfSome, IsInRange, append_cancel_left, RuleSet, NodeRecord, rules_word, number_text, IsName, bool_text, target_text, pair_text, field_text, joined_texts, base_fields, base_head, link_text, node_record_text, BaseLine, BaseNumbers, Head, Base, Place, Link, SpellsBaseLine, IsPlace, place_line, NoDigit, IsFree, CutAt, AreCounts, rules_text, registers_text, IsReadBack, Always, Undigited, alone, after_word, apart_by, bool_back, for_fewer, name_back, nothing_ends, number_back, target_back, through}
+use Rattle.entry_grammar.proofs.Prelude.{◌≡◌, ℕ, ◌<◌, Bool, List, ◌∷◌, ◌++◌, None, Some, get_or, refl, sym, ap, ◌∙◌, append_assoc, arith, codes, IfSome, IsInRange, append_cancel_left, RuleSet, NodeRecord, rules_word, number_text, IsName, bool_text, target_text, field_text, joined_texts, spaced, base_fields, base_head, link_text, node_record_text, BaseLine, BaseNumbers, Head, Base, Place, Link, SpellsBaseLine, IsPlace, place_line, NoDigit, IsFree, CutAt, AreCounts, rules_text, registers_text, IsReadBack, Always, Undigited, alone, after_word, apart_by, bool_back, for_fewer, name_back, nothing_ends, number_back, target_back, through}
 use Rattle.std.specs.Prelude.{Option}
 use Rattle.line_text.specs.ReplyText.{IsOrderedPair}
 use Rattle.entry_grammar.proofs.Free.{free_by, free_name}
@@ -18,16 +18,6 @@ free_target (Some w) f = free_name 32 w (λ h. omega (arith, h.0)) f
 pub registers_cut : (bytes : List ℕ) (target : Option ℕ) (flag : Bool) → IfSome target IsName → bytes ≡ registers_text target flag → CutAt 32 bytes (target_text target) (bool_text flag)
 registers_cut bytes target flag f e = record { free = free_target target f; is = e }
 
--- the parts of each line, as they are read
-pub place_is : (node : ℕ) (target : Option ℕ) (flag : Bool) → number_text node ++ codes " " ++ target_text target ++ codes " " ++ bool_text flag ≡ number_text node ++ 32 ∷ registers_text target flag
-place_is node target flag =
-    append_assoc (number_text node ++ codes " " ++ target_text target) (32 ∷ []) (bool_text flag)
-    ∙ append_assoc (number_text node ++ codes " ") (target_text target) (32 ∷ bool_text flag)
-    ∙ append_assoc (number_text node) (32 ∷ []) (registers_text target flag)
-
-pub head_is : (rules : RuleSet) (size : ℕ) → rules_word rules ++ codes " " ++ number_text size ≡ rules_text rules size
-head_is rules size = append_assoc (rules_word rules) (32 ∷ []) (number_text size)
-
 -- the first byte, which distinguishes the four kinds of lines
 abbrev first_of : List ℕ → ℕ
 first_of line = get_or line 0 0
@@ -35,25 +25,13 @@ first_of line = get_or line 0 0
 -- a line that begins as one kind does is of no other
 pub no_place : (line rest : List ℕ) → line ≡ codes "node " ++ rest → ((p : ℕ × Option ℕ × Bool) → IsName p.0 × IfSome p.1 IsName → rest ≡ number_text p.0 ++ 32 ∷ registers_text p.1 p.2 → ⊥) → (found : BaseLine) → SpellsBaseLine line found → ⊥
 no_place line rest e none (Place node target flag) h =
-    none (node, target, flag) h.fits (append_cancel_left (codes "node ") rest (number_text node ++ codes " " ++ target_text target ++ codes " " ++ bool_text flag) (sym e ∙ h.is) ∙ place_is node target flag)
+    none (node, target, flag) h.fits (append_cancel_left (codes "node ") rest (number_text node ++ codes " " ++ target_text target ++ codes " " ++ bool_text flag) (sym e ∙ h.is) ∙ simp append_assoc)
 no_place line rest e none found h = absurd (omega (arith, ap first_of (sym e ∙ h.is)))
 
 pub no_base : (line rest : List ℕ) → line ≡ codes "base " ++ rest → ((q : BaseNumbers) → AreCounts q → rest ≡ joined_texts field_text (base_fields q.number q.spent q.nodes q.edges) → ⊥) → (found : BaseLine) → SpellsBaseLine line found → ⊥
 no_base line rest e none (Base q) h =
     none q h.fits (append_cancel_left (codes "base ") rest (joined_texts field_text (base_fields q.number q.spent q.nodes q.edges)) (sym e ∙ h.is))
 no_base line rest e none found h = absurd (omega (arith, ap first_of (sym e ∙ h.is)))
-
-pub no_head : (line rest : List ℕ) → line ≡ codes "matching2 " ++ rest → ((rules : RuleSet) (size : ℕ) → size ≤ 65535 → rest ≡ rules_text rules size → ⊥) → (found : BaseLine) → SpellsBaseLine line found → ⊥
-no_head line rest e none (Head rules size) h =
-    none rules size h.fits (append_cancel_left (codes "matching2 ") rest (rules_word rules ++ codes " " ++ number_text size) (sym e ∙ h.is) ∙ head_is rules size)
-no_head line rest e none found h = absurd (omega (arith, ap first_of (sym e ∙ h.is)))
-
--- and one that begins as none does is of none
-pub no_line : (line : List ℕ) → ((rest : List ℕ) → line ≡ codes "node " ++ rest → ⊥) → ((rest : List ℕ) → line ≡ codes "edge " ++ rest → ⊥) → ((rest : List ℕ) → line ≡ codes "base " ++ rest → ⊥) → ((rest : List ℕ) → line ≡ codes "matching2 " ++ rest → ⊥) → (found : BaseLine) → SpellsBaseLine line found → ⊥
-no_line line node edge base head (Head rules size) h = head (rules_word rules ++ codes " " ++ number_text size) h.is
-no_line line node edge base head (Base q) h = base (joined_texts field_text (base_fields q.number q.spent q.nodes q.edges)) h.is
-no_line line node edge base head (Place v target flag) h = node (number_text v ++ codes " " ++ target_text target ++ codes " " ++ bool_text flag) h.is
-no_line line node edge base head (Link e) h = edge (pair_text e.0 e.1) h.is
 
 -- ---- a line spells one
 
@@ -84,8 +62,8 @@ spells_base_line_once line (Base p) (Base q) x y =
     let fields_p = base_fields p.number p.spent p.nodes p.edges in
     let fields_q = base_fields q.number q.spent q.nodes q.edges in
     ap base_from
-    (fields_once (codes "", p.number) (codes "", q.number) (drop 1 fields_p) (drop 1 fields_q) (refl, (refl, (refl, (refl, tt)))) (f.0, (f.1, (f.2, (f.3, tt)))) (g.0, (g.1, (g.2, (g.3, tt))))
-    (append_cancel_left (codes "base ") (joined_texts field_text fields_p) (joined_texts field_text fields_q) (sym x.is ∙ y.is)))
+    (fields_once fields_p fields_q refl (f.0, (f.1, (f.2, (f.3, tt)))) (g.0, (g.1, (g.2, (g.3, tt))))
+    (append_cancel_left (codes "base") (spaced field_text fields_p) (spaced field_text fields_q) (sym x.is ∙ y.is)))
 spells_base_line_once line (Place m v f) (Place n w g) x y =
     ap place_line (alone record_back (λ p. tt) (record { node = m; target = v; flagged = f }) (record { node = n; target = w; flagged = g }) x.fits y.fits (sym x.is ∙ y.is))
 spells_base_line_once line (Link e) (Link f) x y = ap Link (alone link_back (λ p. nothing_ends) e f x.fits y.fits (sym x.is ∙ y.is))

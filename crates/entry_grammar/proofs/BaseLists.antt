@@ -1,15 +1,11 @@
 -- Nodes and edges of a base, read one after another.
-use Rattle.entry_grammar.proofs.Prelude.{◌≡◌, ℕ, Bool, true, if◌then◌else◌, ◌+◌, ◌<◌, List, [], ◌∷◌, ◌++◌, length, length-append, refl, sym, ap, subst, ◌∙◌, append_assoc, arith, flat_map-append, append-nil, NodeRecord, lines_with_ends, node_record_text, link_text, IsOrderedPair, Starts, AscendByKey, IsEdgeAbove, IsNodeAbove, IsPlace, node_key, LinesBreak, LinesRead, last_key}
-use Rattle.entry_grammar.proofs.JoinedWords.{fits_push}
+use Rattle.entry_grammar.proofs.Prelude.{◌≡◌, ℕ, Bool, true, if◌then◌else◌, ◌+◌, ◌<◌, List, ◌∷◌, ◌++◌, length, length-append, refl, sym, ap, subst, ◌∙◌, append_assoc, arith, NodeRecord, lines_with_ends, node_record_text, link_text, IsOrderedPair, Starts, AscendByKey, IsEdgeAbove, IsNodeAbove, IsPlace, node_key, LinesBreak, LinesRead, last_key, []}
+use Rattle.std.proofs.lemmas.List.{flat_map_more}
+use Rattle.entry_grammar.proofs.Free.{all_both}
 
 -- the text of one item more
 ended_push : {X : Type 0} (text : X → List ℕ) (xs : List X) (x : X) (rest more : List ℕ) → rest ≡ text x ++ 10 ∷ more → lines_with_ends text xs ++ rest ≡ lines_with_ends text (xs ++ x ∷ []) ++ more
-ended_push {X} text xs x rest more e =
-    let line : X → List ℕ = λ item. text item ++ 10 ∷ [] in
-    let one : text x ++ 10 ∷ more ≡ (lines_with_ends text (x ∷ [])) ++ more = sym (ap (λ (z : List ℕ). z ++ more) (append-nil (line x)) ∙ append_assoc (text x) (10 ∷ []) more) in
-    ap (λ (z : List ℕ). lines_with_ends text xs ++ z) (e ∙ one)
-    ∙ sym (append_assoc (lines_with_ends text xs) (lines_with_ends text (x ∷ [])) more)
-    ∙ ap (λ (z : List ℕ). z ++ more) (sym (flat_map-append line xs (x ∷ [])))
+ended_push text xs x rest more e = rw (← flat_map_more (λ item. text item ++ 10 ∷ []) [] xs x, e) (simp append_assoc)
 
 last_push : {K X : Type 0} (key : X → K) (last : K) (items : List X) (x : X) → last_key key last (items ++ x ∷ []) ≡ key x
 last_push key last [] x = refl
@@ -33,7 +29,7 @@ pub one_more : {K X : Type 0} {fits : X → Type 0} {text : X → List ℕ} {abo
 one_more {K} {X} {fits} {text} {above} {key} {least} {bytes} {items} {rest} h x more after found = record {
   read = record {
     is = h.read.is ∙ ended_push text items x rest more found.is;
-    fit = fits_push fits items x h.read.fit found.fits;
+    fit = all_both fits items (x ∷ []) h.read.fit (found.fits, tt);
     rise = ascend_push above key least items x h.read.rise (subst (λ k. above k x) h.last_is after);
   };
   count_is = length-append items (x ∷ []) ∙ ap (λ (n : ℕ). n + 1) h.count_is;

@@ -58,7 +58,11 @@ pub a_start : (bytes text rest : List ℕ) (line : BaseLine) → IsLine text × 
 a_start bytes text rest line first h = record { fits = h.fits; is = first.1 ∙ ap (λ (t : List ℕ). t ++ 10 ∷ rest) h.is }
 
 -- bytes begin with one line
-pub starts_once : (bytes : List ℕ) (a b : BaseLine) (m n : List ℕ) → Starts IsBaseLine base_line_text bytes a m → Starts IsBaseLine base_line_text bytes b n → a ≡ b
-starts_once bytes a b m n x y =
+pub starts_once : {bytes : List ℕ} {a b : BaseLine} {m n : List ℕ} → Starts IsBaseLine base_line_text bytes a m → Starts IsBaseLine base_line_text bytes b n → a ≡ b
+starts_once {bytes} {a} {b} {m} {n} x y =
     let same = cut_once 10 bytes (base_line_text a) (base_line_text b) m n (starts_cut bytes a m x) (starts_cut bytes b n y) in
     spells_base_line_once (base_line_text a) a b (record { fits = x.fits; is = refl }) (record { fits = y.fits; is = same.0 })
+
+-- a line of one kind is a line
+pub line_starts : {X : Type 0} (of : X → BaseLine) {bytes : List ℕ} {x : X} {more : List ℕ} → Starts (λ x. IsBaseLine (of x)) (λ x. base_line_text (of x)) bytes x more → Starts IsBaseLine base_line_text bytes (of x) more
+line_starts of h = record { fits = h.fits; is = h.is }

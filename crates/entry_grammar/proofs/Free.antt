@@ -1,12 +1,11 @@
 -- Texts without a given byte, and their ends.
-use Rattle.entry_grammar.proofs.Prelude.{◌≡◌, ◌≢◌, ℕ, ◌<◌, ◌+◌, ◌-◌, true, not, List, [], ◌∷◌, ◌++◌, take, drop, length, get_or, refl, sym, ap, subst, ◌∙◌, arith, IfSome, nat_eq, IsInRange, list_all, AllDigits, digit_from_value, number_text, marked_text, IsName, own, IsFree, CutAt, digits_decimal, and_parts, take-append-drop, take_more, length-drop, drop-cons, take-length}
-use Rattle.std.specs.Prelude.{Option, None, Some}
+use Rattle.entry_grammar.proofs.Prelude.{◌≡◌, ◌≢◌, ℕ, ◌<◌, ◌+◌, ◌-◌, true, not, List, ◌∷◌, ◌++◌, take, drop, length, get_or, refl, sym, ap, subst, ◌∙◌, arith, nat_eq, IsInRange, list_all, AllDigits, digit_from_value, number_text, IsName, own, IsFree, CutAt, digits_decimal, and_parts, take-append-drop, take_more, drop-cons, [], AllByRecursion, take_rest}
 pub use Rattle.line_text.proofs.Digits.{cons_parts}
 
--- two free texts make one
-pub free_append : (mark : ℕ) (x y : List ℕ) → IsFree mark x → IsFree mark y → IsFree mark (x ++ y)
-free_append mark [] y f g = g
-free_append mark (b ∷ x) y f g = (f.0, free_append mark x y f.1 g)
+-- what holds of each item of two lists holds of each item of both
+pub all_both : {X : Type 0} (P : X → Type 0) (xs ys : List X) → AllByRecursion P xs → AllByRecursion P ys → AllByRecursion P (xs ++ ys)
+all_both P [] ys f g = g
+all_both P (x ∷ xs) ys f g = (f.0, all_both P xs ys f.1 g)
 
 -- digits are no other byte
 pub free_digits : (mark : ℕ) (ds : List ℕ) → (IsInRange 48 57 mark → ⊥) → AllDigits 10 ds → IsFree mark ds
@@ -54,26 +53,14 @@ free_no_cut mark bytes f x h a = not_free mark f x (subst (IsFree mark) a.is h)
 -- one more byte that is no mark
 pub free_more : (mark : ℕ) (bytes : List ℕ) (i : ℕ) → i < length bytes → IsFree mark (take i bytes) → get_or bytes i 0 ≢ mark → IsFree mark (take (i + 1) bytes)
 free_more mark bytes i lt f n =
-    subst (IsFree mark) (sym (take_more bytes i 0 lt)) (free_append mark (take i bytes) (get_or bytes i 0 ∷ []) f (n, tt))
-
--- what is left of the bytes after the mark
-pub behind_mark : (mark : ℕ) (bytes : List ℕ) (i : ℕ) → CutAt mark bytes (take i bytes) (drop (i + 1) bytes) → CutAt mark bytes (take i bytes) (take (length bytes - (i + 1)) (drop (i + 1) bytes))
-behind_mark mark bytes i h =
-    let all : take (length bytes - (i + 1)) (drop (i + 1) bytes) ≡ drop (i + 1) bytes = ap (λ (z : ℕ). take z (drop (i + 1) bytes)) (sym (length-drop (i + 1) bytes)) ∙ take-length (drop (i + 1) bytes) in
-    subst (λ (z : List ℕ). CutAt mark bytes (take i bytes) z) (sym all) h
+    subst (IsFree mark) (sym (take_more bytes i 0 lt)) (all_both (λ b. b ≢ mark) (take i bytes) (get_or bytes i 0 ∷ []) f (n, tt))
 
 -- the bytes around the mark
-pub cut_here : (mark : ℕ) (bytes : List ℕ) (i : ℕ) → i < length bytes → IsFree mark (take i bytes) → get_or bytes i 0 ≡ mark → CutAt mark bytes (take i bytes) (drop (i + 1) bytes)
+pub cut_here : (mark : ℕ) (bytes : List ℕ) (i : ℕ) → i < length bytes → IsFree mark (take i bytes) → get_or bytes i 0 ≡ mark → CutAt mark bytes (take i bytes) (take (length bytes - (i + 1)) (drop (i + 1) bytes))
 cut_here mark bytes i lt f e =
-    let whole : bytes ≡ take i bytes ++ drop i bytes = sym (take-append-drop i bytes) in
     let behind : drop i bytes ≡ mark ∷ drop (i + 1) bytes = grind (arith, drop-cons bytes i 0 lt) in
-    record { free = f; is = whole ∙ ap (λ (z : List ℕ). take i bytes ++ z) behind }
+    rw (take_rest bytes (i + 1)) (record { free = f; is = sym (take-append-drop i bytes) ∙ ap (λ (z : List ℕ). take i bytes ++ z) behind })
 
 -- a name has no byte that is no digit
 pub free_name : (mark n : ℕ) → (IsInRange 48 57 mark → ⊥) → IsName n → IsFree mark (number_text n)
 free_name mark n o h = free_number mark n o (omega arith)
-
--- a target after its mark
-pub free_marked : (mark : ℕ) (target : Option ℕ) → (IsInRange 48 57 mark → ⊥) → 62 ≢ mark → IfSome target IsName → IsFree mark (marked_text (62 ∷ []) target)
-free_marked mark None o n f = tt
-free_marked mark (Some w) o n f = (n, free_name mark w o f)

@@ -1,6 +1,7 @@
 -- The parts of a header.
-use Rattle.entry_grammar.proofs.Prelude.{◌≡◌, ℕ, ◌<◌, ◌≤◌, Bool, true, false, cond, List, [], ◌∷◌, ◌++◌, Option, None, Some, get_or, refl, sym, ap, ap₂, subst, ◌∙◌, append_assoc, arith, rules, codes, nat_lt, nat_tests, append_cancel_left, decimal_injective, RuleSet, Hh, Manne, rules_word, number_text, sizes_text, IsReadBack, Always, alone, AreSizes, Header, SpellsHeader, ParsesAs, IsFree, CutAt}
+use Rattle.entry_grammar.proofs.Prelude.{◌≡◌, ℕ, ◌<◌, ◌≤◌, Bool, true, cond, List, ◌∷◌, ◌++◌, Option, None, Some, get_or, refl, sym, ap, ap₂, subst, ◌∙◌, append_assoc, arith, rules, codes, inl, inr, nat_lt, nat_tests, append_cancel_left, decimal_injective, RuleSet, Hh, Manne, rules_word, number_text, sizes_text, IsReadBack, Always, alone, AreSizes, Header, SpellsHeader, ParsesAs, IsFree, CutAt, []}
 use Rattle.std.specs.Prelude.{MatchOption}
+use Rattle.std.proofs.lemmas.Bool.{cases_lt}
 use Rattle.entry_grammar.proofs.Free.{free_by, free_number, free_no_cut, cut_once}
 
 -- a rule set's word has no space
@@ -10,7 +11,7 @@ rules_free Manne = free_by 32 (rules_word Manne) refl
 
 -- what follows the first word of a header
 parts_of : (rules : RuleSet) (sizes : List ℕ) → codes "matching " ++ rules_word rules ++ codes " " ++ sizes ≡ codes "matching " ++ (rules_word rules ++ 32 ∷ sizes)
-parts_of rules sizes = append_assoc (codes "matching " ++ rules_word rules) (32 ∷ []) sizes ∙ append_assoc (codes "matching ") (rules_word rules) (32 ∷ sizes)
+parts_of rules sizes = simp append_assoc
 
 pub header_words : (line words : List ℕ) (header : Header) → line ≡ codes "matching " ++ words → SpellsHeader line header → CutAt 32 words (rules_word header.rules) (sizes_text header.names header.present)
 header_words line words header e h =
@@ -34,47 +35,37 @@ pub number_once : (back : List ℕ) (m n : ℕ) → m ≤ 65535 → n ≤ 65535 
 number_once back m n h k e f = decimal_injective m n (omega arith) (omega arith) (sym e ∙ f)
 
 -- if all are present there is one number, else there are two
-pub sizes_all : (size : ℕ) → sizes_text size size ≡ number_text size
-sizes_all size = grind (arith, nat_tests)
+pub sizes_all : (size count : ℕ) → size ≤ count → sizes_text size count ≡ number_text size
+sizes_all size count more = grind (arith, nat_tests)
 
-pub sizes_some : (size count : ℕ) → count < size → sizes_text size count ≡ number_text size ++ 32 ∷ number_text count
-sizes_some size count less =
+sizes_cut : (size count : ℕ) (bytes : List ℕ) → AreSizes size count → bytes ≡ sizes_text size count → count < size → CutAt 32 bytes (number_text size) (number_text count)
+sizes_cut size count bytes f e less =
     let test : nat_lt count size ≡ true = grind (arith, nat_tests) in
-    ap (λ (b : Bool). cond b (number_text size ++ codes " " ++ number_text count) (number_text size)) test
-    ∙ append_assoc (number_text size) (32 ∷ []) (number_text count)
-
--- how the numbers are said
-pub data Said (size count : ℕ) (bytes : List ℕ) : Type 0 where
-  whole : count ≡ size → bytes ≡ number_text size → Said size count bytes
-  partly : count < size → CutAt 32 bytes (number_text size) (number_text count) → Said size count bytes
-
-pub said : (size count : ℕ) (bytes : List ℕ) → AreSizes size count → bytes ≡ sizes_text size count → Said size count bytes
-said size count bytes f e = told (nat_lt count size) refl
-  where
-    told : (b : Bool) → nat_lt count size ≡ b → Said size count bytes
-    told true less = let below : count < size = search rules in partly below (record { free = free_size size f.few; is = e ∙ sizes_some size count below })
-    told false more = let same : count ≡ size = grind (arith, f.within) in whole same (e ∙ ap (sizes_text size) same ∙ sizes_all size)
+    record { free = free_size size f.few; is = e ∙ ap (λ (b : Bool). cond b (number_text size ++ codes " " ++ number_text count) (number_text size)) test ∙ append_assoc (number_text size) (32 ∷ []) (number_text count) }
 
 -- if there is a space among them, there are two numbers
 pub two_said : (size count : ℕ) (bytes front back : List ℕ) → AreSizes size count → bytes ≡ sizes_text size count → CutAt 32 bytes front back → (count < size) × (front ≡ number_text size) × (back ≡ number_text count)
-two_said size count bytes front back f e at = step (said size count bytes f e)
-  where
-    step : Said size count bytes → (count < size) × (front ≡ number_text size) × (back ≡ number_text count)
-    step (whole x a) = absurd (free_no_cut 32 bytes front back (subst (IsFree 32) (sym a) (free_size size f.few)) at)
-    step (partly x a) = let p = cut_once 32 bytes front (number_text size) back (number_text count) at a in (x, p.0, p.1)
+two_said size count bytes front back f e at =
+    elim (cases_lt count size) [
+      | inl less ↦ let p = cut_once 32 bytes front (number_text size) back (number_text count) at (sizes_cut size count bytes f e less) in (less, p.0, p.1)
+      | inr more ↦ absurd (free_no_cut 32 bytes front back (subst (IsFree 32) (sym (e ∙ sizes_all size count more)) (free_size size f.few)) at)
+    ]
 
 -- the numbers have a text of their own
 pub sizes_once : (bytes : List ℕ) (m n c d : ℕ) → AreSizes m c → AreSizes n d → bytes ≡ sizes_text m c → bytes ≡ sizes_text n d → (m ≡ n) × (c ≡ d)
-sizes_once bytes m n c d f g e h = both (said m c bytes f e) (said n d bytes g h)
-  where
-    both : Said m c bytes → Said n d bytes → (m ≡ n) × (c ≡ d)
-    both (whole x a) (whole y b) = let same = number_once bytes m n (omega (arith, f.few)) g.few a b in (same, x ∙ same ∙ sym y)
-    both (whole x a) (partly y b) = absurd (free_no_cut 32 bytes (number_text n) (number_text d) (subst (IsFree 32) (sym a) (free_size m f.few)) b)
-    both (partly x a) (whole y b) = absurd (free_no_cut 32 bytes (number_text m) (number_text c) (subst (IsFree 32) (sym b) (free_size n g.few)) a)
-    both (partly x a) (partly y b) =
-        let parts = cut_once 32 bytes (number_text m) (number_text n) (number_text c) (number_text d) a b in
-        let first = decimal_injective m n (omega (arith, f.few)) (omega (arith, g.few)) parts.0 in
-        (first, decimal_injective c d (omega (arith, f.few, x)) (omega (arith, g.few, y)) parts.1)
+sizes_once bytes m n c d f g e h =
+    elim (cases_lt c m) [
+      | inl less ↦
+          let two = two_said n d bytes (number_text m) (number_text c) g h (sizes_cut m c bytes f e less) in
+          let first = decimal_injective m n (omega (arith, f.few)) (omega (arith, g.few)) two.1 in
+          (first, decimal_injective c d (omega (arith, f.few, less)) (omega (arith, g.few, two.0)) two.2)
+      | inr more ↦ elim (cases_lt d n) [
+        | inl less ↦ let two = two_said m c bytes (number_text n) (number_text d) f e (sizes_cut n d bytes g h less) in absurd (omega (arith, two.0, more))
+        | inr also ↦
+            let same = number_once bytes m n f.few g.few (e ∙ sizes_all m c more) (h ∙ sizes_all n d also) in
+            (same, omega (arith, same, more, also, f.within, g.within))
+      ]
+    ]
 
 -- a rule set has one word
 pub rules_back : IsReadBack (λ (rules : RuleSet). Unit {0}) rules_word Always

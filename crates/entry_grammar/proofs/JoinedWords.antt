@@ -1,6 +1,7 @@
 -- Words that are joined by one space.
-use Rattle.entry_grammar.proofs.Prelude.{◌≡◌, ◌≢◌, ℕ, List, [], ◌∷◌, ◌++◌, length, refl, sym, ap, ◌∙◌, append_assoc, arith, codes, AllByRecursion, append-nil, spaced, joined_texts, joined_or, EndsWord, TokenThen, cons_parts}
+use Rattle.entry_grammar.proofs.Prelude.{◌≡◌, ◌≢◌, ℕ, List, ◌∷◌, ◌++◌, length, refl, sym, ap, ◌∙◌, append_assoc, arith, codes, AllByRecursion, spaced, joined_texts, joined_or, EndsWord, TokenThen, cons_parts, []}
 use Rattle.line_text.specs.ReadBack.{IsReadBack}
+use Rattle.entry_grammar.proofs.Free.{all_both}
 
 -- Some words were read, and a non-empty rest is left. With the words of the rest they make the whole text;
 -- and whatever words the whole text spells, the rest spells some.
@@ -8,28 +9,6 @@ pub record SoFar {X : Type 0} (text : X → List ℕ) (fits : X → Type 0) (byt
   pub read : AllByRecursion fits words
   pub onto : (w : X) (more : List X) → rest ≡ joined_texts text (w ∷ more) → bytes ≡ joined_texts text (words ++ w ∷ more)
   pub left : (all : List X) → AllByRecursion fits all → bytes ≡ joined_texts text all → (w : X) × (more : List X) × AllByRecursion fits (w ∷ more) × (rest ≡ joined_texts text (w ∷ more))
-
--- the words of a text that is not empty
-first_left : {X : Type 0} (text : X → List ℕ) (fits : X → Type 0) (bytes : List ℕ) → bytes ≢ [] → (all : List X) → AllByRecursion fits all → bytes ≡ joined_texts text all → (w : X) × (more : List X) × AllByRecursion fits (w ∷ more) × (bytes ≡ joined_texts text (w ∷ more))
-first_left text fits bytes some [] f e = absurd (some e)
-first_left text fits bytes some (w ∷ more) f e = (w, more, f, e)
-
--- no word was read
-pub SoFar-none : {X : Type 0} (text : X → List ℕ) (fits : X → Type 0) (bytes : List ℕ) → bytes ≢ [] → SoFar text fits bytes [] bytes
-SoFar-none text fits bytes some = record {
-  read = tt;
-  onto = λ w more e. e;
-  left = first_left text fits bytes some;
-}
-
--- one more word that fits
-pub fits_push : {X : Type 0} (fits : X → Type 0) (words : List X) (x : X) → AllByRecursion fits words → fits x → AllByRecursion fits (words ++ x ∷ [])
-fits_push fits [] x f g = (g, tt)
-fits_push fits (w ∷ words) x f g = (f.0, fits_push fits words x f.1 g)
-
-words_end : {X : Type 0} (text : X → List ℕ) (more : List X) → EndsWord (spaced text more)
-words_end text [] = refl
-words_end text (v ∷ more) = refl
 
 -- if a space follows the first word, more words follow the space
 next_word : {X : Type 0} (text : X → List ℕ) (fits : X → Type 0) → IsReadBack fits text (λ x. EndsWord) → (rest next : List ℕ) (x w : X) (more : List X) → fits x → rest ≡ text x ++ 32 ∷ next → AllByRecursion fits (w ∷ more) → rest ≡ joined_texts text (w ∷ more) → (v : X) × (others : List X) × AllByRecursion fits (v ∷ others) × (next ≡ joined_texts text (v ∷ others))
@@ -43,7 +22,7 @@ pub SoFar-more : {X : Type 0} {text : X → List ℕ} {fits : X → Type 0} {byt
 SoFar-more {X} {text} {fits} {bytes} {words} {rest} {behind} {next} {x} back s h space =
     let is : rest ≡ text x ++ 32 ∷ next = h.is ∙ ap (λ (z : List ℕ). text x ++ z) space in
     record {
-      read = fits_push fits words x s.read h.fits;
+      read = all_both fits words (x ∷ []) s.read (h.fits, tt);
       onto = λ w more e.
           s.onto x (w ∷ more) (is ∙ ap (λ (z : List ℕ). text x ++ 32 ∷ z) e)
           ∙ ap (joined_texts text) (sym (append_assoc words (x ∷ []) (w ∷ more)));
@@ -51,17 +30,6 @@ SoFar-more {X} {text} {fits} {bytes} {words} {rest} {behind} {next} {x} back s h
           let l = s.left all g e in
           next_word text fits back rest next x l.0 l.1 h.fits is l.2 l.3;
     }
-
--- the last word was read
-pub SoFar-last : {X : Type 0} (text : X → List ℕ) (fits : X → Type 0) (bytes : List ℕ) (words : List X) (rest : List ℕ) (x : X) → SoFar text fits bytes words rest → fits x → rest ≡ text x → AllByRecursion fits (words ++ x ∷ []) × (bytes ≡ joined_texts text (words ++ x ∷ []))
-SoFar-last text fits bytes words rest x s f e =
-    (fits_push fits words x s.read f, s.onto x [] (e ∙ sym (append-nil (text x))))
-
--- no words are spelled if none is at the front
-pub SoFar-no_word : {X : Type 0} (text : X → List ℕ) (fits : X → Type 0) (bytes : List ℕ) (words : List X) (rest : List ℕ) → SoFar text fits bytes words rest → ((x : X) (back : List ℕ) → TokenThen fits text rest x back → ⊥) → (all : List X) → AllByRecursion fits all → bytes ≡ joined_texts text all → ⊥
-SoFar-no_word {X} text fits bytes words rest s none all g h =
-    let l = s.left all g h in
-    none l.0 (spaced text l.1) (record { fits = l.2.0; ends = words_end text l.1; is = l.3 })
 
 -- only an empty text and another make an empty text
 front_nil : (x y : List ℕ) → x ++ y ≡ [] → x ≡ []

@@ -1,7 +1,7 @@
 -- Texts without a line feed, which ends a line, and texts without a `=`, which comes before a reply.
-use Rattle.entry_grammar.proofs.Prelude.{◌≡◌, ℕ, ◌<◌, Bool, true, false, not, List, [], ◌∷◌, ◌++◌, Option, None, Some, refl, arith, codes, IfSome, nat_eq, IsInRange, AllByRecursion, list_all, Item, Event, Unlink, Point, Flag, Step, Show, Enabled, Matching, Status, Join, Leave, number_text, marked_text, spaced, joined_texts, IsName, IsItem, IsEvent, bool_text, event_text, flag_text, item_text, pair_text, point_text, target_text, IsFree}
+use Rattle.entry_grammar.proofs.Prelude.{◌≡◌, ◌≢◌, ℕ, ◌<◌, Bool, true, false, not, List, ◌∷◌, ◌++◌, Option, None, Some, refl, arith, codes, IfSome, nat_eq, IsInRange, AllByRecursion, list_all, Item, Event, Unlink, Point, Flag, Step, Show, Enabled, Matching, Status, Join, Leave, number_text, marked_text, spaced, joined_texts, IsName, IsItem, IsEvent, bool_text, event_text, flag_text, item_text, pair_text, point_text, target_text, IsFree, []}
 use Rattle.rule_machine.specs.declared.event.Event.TheVariants.{Link}
-use Rattle.entry_grammar.proofs.Free.{free_append, free_by, free_marked, free_name, free_number}
+use Rattle.entry_grammar.proofs.Free.{all_both, free_by, free_name, free_number}
 
 pub data Mark : Type 0 where
   feed : Mark
@@ -31,7 +31,7 @@ pub name_lacks : (m : Mark) (n : ℕ) → IsName n → Lacks m (number_text n)
 name_lacks m n f = free_name (byte_of m) n (no_digit m) f
 
 pub both_lack : (m : Mark) (x y : List ℕ) → Lacks m x → Lacks m y → Lacks m (x ++ y)
-both_lack m x y f g = free_append (byte_of m) x y f g
+both_lack m x y f g = all_both (λ b. b ≢ byte_of m) x y f g
 
 -- with a space between them
 pub apart_lack : (m : Mark) (x y : List ℕ) → Lacks m x → Lacks m y → Lacks m (x ++ codes " " ++ y)
@@ -58,8 +58,8 @@ bool_lacks m true = word_lacks m (codes "1") refl refl
 bool_lacks m false = word_lacks m (codes "0") refl refl
 
 pub marked_lacks : (m : Mark) (target : Option ℕ) → IfSome target IsName → Lacks m (marked_text (codes ">") target)
-marked_lacks feed target f = free_marked 10 target (no_digit feed) (λ h. omega (arith, h)) f
-marked_lacks equals target f = free_marked 61 target (no_digit equals) (λ h. omega (arith, h)) f
+marked_lacks m None f = tt
+marked_lacks m (Some w) f = both_lack m (codes ">") (number_text w) (word_lacks m (codes ">") refl refl) (name_lacks m w f)
 
 item_lacks : (m : Mark) (i : Item) → IsItem i → Lacks m (item_text i)
 item_lacks m i f = both_lack m (number_text i.node) (marked_text (codes ">") i.wish) (name_lacks m i.node f.0) (marked_lacks m i.wish f.1)

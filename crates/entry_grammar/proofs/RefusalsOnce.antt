@@ -1,7 +1,6 @@
 -- Refusals by their numbers.
-use Rattle.entry_grammar.proofs.Prelude.{◌≡◌, ℕ, ◌≤◌, List, [], ◌∷◌, ◌++◌, if◌then◌else◌, refl, sym, ap, ◌∙◌, append_assoc, arith, nat_eq, decimal_injective, Refusal, UnknownNode, SelfLoop, AlreadyLinked, NotLinked, TooManyEdges, NotNeighbour, NoFlag, EmptyChoice, NotCentral, ChosenTwice, NotEnabled, BadTarget, AlreadyPresent, refusal_number, refusal_text, number_text, IsName, refusal_words, CutAt}
-use Rattle.entry_grammar.proofs.Free.{cut_once}
-use Rattle.entry_grammar.proofs.MarkedNames.{name_cut, name_once}
+use Rattle.entry_grammar.proofs.Prelude.{◌≡◌, ℕ, ◌≤◌, List, ◌∷◌, ◌++◌, if◌then◌else◌, refl, sym, ap, ◌∙◌, append_assoc, arith, nat_eq, decimal_injective, Refusal, UnknownNode, SelfLoop, AlreadyLinked, NotLinked, TooManyEdges, NotNeighbour, NoFlag, EmptyChoice, NotCentral, ChosenTwice, NotEnabled, BadTarget, AlreadyPresent, refusal_number, refusal_text, number_text, refusal_words, CutAt, []}
+use Rattle.entry_grammar.proofs.Free.{cut_once, free_number}
 
 -- the refusal with this number
 abbrev refusal_at : ℕ → Refusal
@@ -16,31 +15,27 @@ at_number r = refl
 pub refusal_once : (r q : Refusal) → refusal_number r ≡ refusal_number q → r ≡ q
 refusal_once r q e = sym (at_number r) ∙ ap refusal_at e ∙ at_number q
 
--- a refusal's number is small enough to be a name
-pub refusal_named : (r : Refusal) → IsName (refusal_number r)
-refusal_named UnknownNode = (omega arith, omega arith)
-refusal_named r = (omega arith, omega arith)
+-- a refusal's number fits
+pub refusal_small : (r : Refusal) → refusal_number r ≤ 4294967295
+refusal_small UnknownNode = omega arith
+refusal_small r = omega arith
 
 -- a refusal's words are cut after its number
 pub refusal_cut : (bytes : List ℕ) (r : Refusal) → bytes ≡ refusal_words r → CutAt 32 bytes (number_text (refusal_number r)) (refusal_text r)
 refusal_cut bytes r e =
-    name_cut 32 bytes (refusal_number r) (refusal_text r) (λ h. omega (arith, h.0)) (refusal_named r) (e ∙ append_assoc (number_text (refusal_number r)) (32 ∷ []) (refusal_text r))
-
--- a refusal has words of its own
-pub refusal_words_once : (r q : Refusal) → refusal_words r ≡ refusal_words q → r ≡ q
-refusal_words_once r q e =
-    let p = cut_once 32 (refusal_words r) (number_text (refusal_number r)) (number_text (refusal_number q)) (refusal_text r) (refusal_text q) (refusal_cut (refusal_words r) r refl) (refusal_cut (refusal_words r) q e) in
-    refusal_once r q (name_once (refusal_number r) (refusal_number q) (refusal_named r) (refusal_named q) p.0)
-
--- a refusal's number fits
-pub refusal_small : (r : Refusal) → refusal_number r ≤ 4294967295
-refusal_small r = let f = refusal_named r in omega (arith, f.1)
+    record { free = free_number 32 (refusal_number r) (λ h. omega (arith, h.0)) (omega (arith, refusal_small r)); is = e ∙ append_assoc (number_text (refusal_number r)) (32 ∷ []) (refusal_text r) }
 
 -- a refusal's number is the number that its text says
 pub number_same : (bytes : List ℕ) (r : Refusal) (n : ℕ) → n ≤ 4294967295 → bytes ≡ number_text (refusal_number r) → bytes ≡ number_text n → refusal_number r ≡ n
 number_same bytes r n h e f =
     let small = refusal_small r in
     decimal_injective (refusal_number r) n (omega (arith, small)) (omega (arith, h)) (sym e ∙ f)
+
+-- a refusal has words of its own
+pub refusal_words_once : (r q : Refusal) → refusal_words r ≡ refusal_words q → r ≡ q
+refusal_words_once r q e =
+    let p = cut_once 32 (refusal_words r) (number_text (refusal_number r)) (number_text (refusal_number q)) (refusal_text r) (refusal_text q) (refusal_cut (refusal_words r) r refl) (refusal_cut (refusal_words r) q e) in
+    refusal_once r q (number_same (number_text (refusal_number r)) r (refusal_number q) (refusal_small q) refl p.0)
 
 -- a number and a text that are a refusal's
 pub refusal_read : (bytes number text : List ℕ) (n : ℕ) (r : Refusal) → CutAt 32 bytes number text → number ≡ number_text n → refusal_number r ≡ n → text ≡ refusal_text r → bytes ≡ refusal_words r

@@ -1,16 +1,16 @@
 -- Replies of one kind.
-use Rattle.entry_grammar.proofs.Prelude.{◌≡◌, ℕ, List, ◌++◌, Option, get_or, refl, sym, ap, ◌∙◌, arith, IsTrue, ⊤, codes, append_cancel_left, Act, Moved, Refusal, Event, Step, Show, Enabled, Matching, Status, Reply, Accepted, Refused, Moves, Shown, EnabledAre, Pairs, fits, refusal_words, reply_text, IsReply, is_done, answers_step, is_shown, are_enabled, are_pairs, are_counts, reply_suits, alone, nothing_ends, target_back}
+use Rattle.entry_grammar.proofs.Prelude.{◌≡◌, ℕ, List, ◌++◌, Option, get_or, refl, sym, ap, ◌∙◌, arith, IsTrue, ⊤, codes, append_cancel_left, Act, Moved, Refusal, Event, Step, Show, Enabled, Matching, Status, Reply, Accepted, Refused, Moves, Shown, EnabledAre, Pairs, fits, refusal_words, reply_text, IsReply, is_done, answers_step, is_shown, are_enabled, are_pairs, are_counts, reply_suits, alone, nothing_ends, target_back, joined_back, joined_or_back}
 use Rattle.rule_machine.specs.declared.counts.Counts as numbers
 use Rattle.rule_machine.specs.declared.reply.Reply.TheVariants.{Counts}
 use Rattle.entry_grammar.proofs.RefusalsOnce.{refusal_words_once}
 use Rattle.entry_grammar.proofs.CountsOnce.{counts_once}
-use Rattle.entry_grammar.proofs.TokensOnce.{moves_once, enabled_once, pairs_once, refused_moves, refused_target}
+use Rattle.entry_grammar.proofs.TokensOnce.{moves, enabled, pairs, letter, refused_moves, refused_target}
 
 -- what fits an event suits it
 pub fits_suits : (event : Event) (reply : Reply) → IsTrue (fits event reply) → IsTrue (reply_suits event reply)
-fits_suits (Step items) (Moves moves) h = refl
+fits_suits (Step items) (Moves list) h = refl
 fits_suits Enabled (EnabledAre nodes) h = refl
-fits_suits Matching (Pairs pairs) h = refl
+fits_suits Matching (Pairs list) h = refl
 fits_suits event reply h = h
 
 -- a refusal is not said as `ok`
@@ -30,7 +30,7 @@ done_once (Refused r) (Refused q) s t e = refused_once r q e
 done_once r q s t e = cc
 
 moved_once : (r q : Reply) → IsTrue (answers_step r) → IsTrue (answers_step q) → IsReply r → IsReply q → reply_text r ≡ reply_text q → r ≡ q
-moved_once (Moves x) (Moves y) s t f g e = ap (λ (z : List Moved). Moves z) (moves_once x y f g e)
+moved_once (Moves x) (Moves y) s t f g e = ap (λ (z : List Moved). Moves z) (joined_back moves x y f g e)
 moved_once (Moves x) (Refused q) s t f g e = absurd (refused_moves x (refusal_words q) f e)
 moved_once (Refused r) (Moves y) s t f g e = absurd (refused_moves y (refusal_words r) g (sym e))
 moved_once (Refused r) (Refused q) s t f g e = refused_once r q e
@@ -44,11 +44,11 @@ shown_once (Refused r) (Refused q) s t f g e = refused_once r q e
 shown_once r q s t f g e = cc
 
 are_enabled_once : (r q : Reply) → IsTrue (are_enabled r) → IsTrue (are_enabled q) → IsReply r → IsReply q → reply_text r ≡ reply_text q → r ≡ q
-are_enabled_once (EnabledAre x) (EnabledAre y) s t f g e = ap (λ (z : List (ℕ × Act)). EnabledAre z) (enabled_once x y f g e)
+are_enabled_once (EnabledAre x) (EnabledAre y) s t f g e = ap (λ (z : List (ℕ × Act)). EnabledAre z) (joined_or_back enabled (codes "none") letter x y f g e)
 are_enabled_once r q s t f g e = cc
 
 are_pairs_once : (r q : Reply) → IsTrue (are_pairs r) → IsTrue (are_pairs q) → IsReply r → IsReply q → reply_text r ≡ reply_text q → r ≡ q
-are_pairs_once (Pairs x) (Pairs y) s t f g e = ap (λ (z : List (ℕ × ℕ)). Pairs z) (pairs_once x y f g e)
+are_pairs_once (Pairs x) (Pairs y) s t f g e = ap (λ (z : List (ℕ × ℕ)). Pairs z) (joined_or_back pairs (codes "none") letter x y f g e)
 are_pairs_once r q s t f g e = cc
 
 are_counts_once : (r q : Reply) → IsTrue (are_counts r) → IsTrue (are_counts q) → IsReply r → IsReply q → reply_text r ≡ reply_text q → r ≡ q

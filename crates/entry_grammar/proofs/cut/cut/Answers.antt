@@ -1,4 +1,4 @@
-use Rattle.entry_grammar.proofs.Free.{free_more, cut_here, behind_mark}
+use Rattle.entry_grammar.proofs.Free.{free_more, cut_here}
 use Rattle.entry_grammar.proofs.cut.cut.Goals as goal
 
 pub loop-i-preserved : goal.loop-i-preserved
@@ -6,4 +6,4 @@ loop-i-preserved c = free_more c.args.mark c.args.bytes.now c.loop-i.i c.loop-i-
 
 pub returns-then-byte-mark : goal.returns-then-byte-mark
 returns-then-byte-mark c =
-    behind_mark c.args.mark c.args.bytes.now c.loop-i.i (cut_here c.args.mark c.args.bytes.now c.loop-i.i c.loop-i-test.true c.loop-i.invariant c.if-byte-mark.true)
+    cut_here c.args.mark c.args.bytes.now c.loop-i.i c.loop-i-test.true c.loop-i.invariant c.if-byte-mark.true

@@ -1,15 +1,14 @@
 use Rattle.std.proofs.Common.{arith}
 use Rattle.entry_grammar.proofs.Headers.{number_once, two_said}
-use Rattle.entry_grammar.proofs.CountsOnce.{none_read}
 use Rattle.entry_grammar.proofs.header.read_sizes.Goals as goal
 
 pub returns-in_err-names : goal.returns-in_err-names
-returns-in_err-names c = none_read _ _ c.from_residual-in_err-names.ensures (λ header f e.
+returns-in_err-names c = rw c.from_residual-in_err-names.ensures (λ header f e.
     let two = two_said header.names header.present c.args.bytes.now c.in-Some.names.now c.in-Some.present.now f.1 e c.in-Some.ensures in
     c.in_err-names.ensures header.names f.1.few two.1)
 
 pub returns-in_err-present : goal.returns-in_err-present
-returns-in_err-present c = none_read _ _ c.from_residual-in_err-present.ensures (λ header f e.
+returns-in_err-present c = rw c.from_residual-in_err-present.ensures (λ header f e.
     let two = two_said header.names header.present c.args.bytes.now c.in-Some.names.now c.in-Some.present.now f.1 e c.in-Some.ensures in
     c.in_err-present.ensures header.present (omega (arith, two.0, f.1.few)) two.2)
 

@@ -1,5 +1,5 @@
 use Rattle.entry_grammar.proofs.Prelude.{common_steps, ◌≡◌, ◌++◌, sym, ◌∙◌, arith, number_text, name_once}
-use Rattle.entry_grammar.proofs.MarkedNames.{marked_once}
+use Rattle.entry_grammar.proofs.TokensOnce.{marked_once}
 use Rattle.entry_grammar.proofs.tokens.read_pair.Goals as goal
 
 pub returns-in_default-read_name : goal.returns-in_default-read_name
