@@ -7,16 +7,16 @@ use Rattle.entry_grammar.proofs.Headers.{rules_back, rules_free}
 use Rattle.entry_grammar.proofs.CountsOnce.{fields_once, number_at}
 
 -- the rules and the names are cut at the space between them
-pub rules_cut : (bytes : List ℕ) (rules : RuleSet) (size : ℕ) → bytes ≡ rules_text rules size → CutAt 32 bytes (rules_word rules) (number_text size)
-rules_cut bytes rules size e = record { free = rules_free rules; is = e }
+pub rules_cut : {bytes : List ℕ} (rules : RuleSet) (size : ℕ) → bytes ≡ rules_text rules size → CutAt 32 bytes (rules_word rules) (number_text size)
+rules_cut rules size e = record { free = rules_free rules; is = e }
 
 -- so are the registers
 free_target : (target : Option ℕ) → IfSome target IsName → IsFree 32 (target_text target)
 free_target None f = free_by 32 (codes "-") refl
 free_target (Some w) f = free_name 32 w (λ h. omega (arith, h.0)) f
 
-pub registers_cut : (bytes : List ℕ) (target : Option ℕ) (flag : Bool) → IfSome target IsName → bytes ≡ registers_text target flag → CutAt 32 bytes (target_text target) (bool_text flag)
-registers_cut bytes target flag f e = record { free = free_target target f; is = e }
+pub registers_cut : {bytes : List ℕ} (target : Option ℕ) (flag : Bool) → IfSome target IsName → bytes ≡ registers_text target flag → CutAt 32 bytes (target_text target) (bool_text flag)
+registers_cut target flag f e = record { free = free_target target f; is = e }
 
 -- the first byte, which distinguishes the four kinds of lines
 abbrev first_of : List ℕ → ℕ

@@ -90,10 +90,7 @@ first_of base = Base (base_numbers base)
 
 tail_len : (base : BaseKept) → length (tail_of base) ≡ length base.nodes + length base.edges
 tail_len base =
-    let both = length-append (map place_line base.nodes) (map (λ edge. Link edge) base.edges) in
-    let nodes = length-map base.nodes place_line in
-    let edges = length-map base.edges (λ edge. Link edge) in
-    omega (arith, both, nodes, edges)
+    omega (arith, length-append {A = BaseLine}, length-map base.nodes place_line, length-map base.edges (λ edge. Link edge))
 
 pub same_numbers : (p q : BaseNumbers) → Base p ≡ Base q → p ≡ q
 same_numbers p q e = cc
@@ -140,10 +137,7 @@ breaks_once bytes k l b c = go (meet b.lines c.lines b.rest c.rest b.fit c.fit (
 
 -- a whole base is not short, and neither is what continues it
 not_short : (base : BaseKept) (more : List BaseLine) → LacksLines (lines_of_base base ++ more) → ⊥
-not_short base more short =
-    let lens = length-append (tail_of base) more in
-    let len = tail_len base in
-    omega (arith, short, lens, len)
+not_short base more short = omega (arith, short, length-append (tail_of base) more, tail_len base)
 
 pub base_unbroken : (bytes : List ℕ) (base : BaseKept) (rest : List ℕ) (k : ℕ) → IsShaped base → bytes ≡ base_lines base ++ rest → BreaksAt bytes k → ⊥
 base_unbroken bytes base rest k shaped e b =

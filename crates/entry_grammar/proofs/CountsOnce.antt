@@ -3,8 +3,8 @@ use Rattle.entry_grammar.proofs.Prelude.{◌≡◌, ◌≤◌, ◌≢◌, ℕ, m
 use Rattle.entry_grammar.proofs.Free.{all_both, cons_parts, free_number}
 
 -- a field is cut at the space after it
-pub field_cut : (bytes name : List ℕ) (n : ℕ) (rest : List ℕ) → IsFree 32 name → FieldThen bytes name n rest → CutAt 32 bytes (field_text (name, n)) rest
-field_cut bytes name n rest f h =
+pub field_cut : {bytes name : List ℕ} {n : ℕ} {rest : List ℕ} → IsFree 32 name → FieldThen bytes name n rest → CutAt 32 bytes (field_text (name, n)) rest
+field_cut {bytes} {name} {n} {rest} f h =
     let few = h.fits in
     record {
       free = all_both (λ b. b ≢ 32) name (number_text n) f (free_number 32 n (λ p. omega (arith, p.0)) (omega (arith, few)));

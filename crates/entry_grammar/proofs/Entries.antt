@@ -1,5 +1,5 @@
 -- The parts of an entry's line. A line spells at most one entry.
-use Rattle.entry_grammar.proofs.Prelude.{◌≡◌, ◌≢◌, ℕ, [], ◌∷◌, IsInRange, append_assoc, append_cancel_left, append_cancel_right, IsFree, CutAt, NumberThen, number_once, ◌<◌, List, ◌++◌, refl, sym, ap, subst, ◌∙◌, arith, IsTrue, codes, Event, Reply, fits, number_text, IsEvent, event_text, reply_text, spells_once, IsReply, SpellsEntry, PartsOf, reply_suits}
+use Rattle.entry_grammar.proofs.Prelude.{◌≡◌, ◌≢◌, ℕ, [], ◌∷◌, IsInRange, append_assoc, append_cancel_left, append_cancel_right, IsFree, CutAt, NumberThen, number_once, ◌<◌, List, ◌++◌, refl, sym, ap, subst, ◌∙◌, arith, IsTrue, codes, Event, Reply, number_text, IsEvent, event_text, reply_text, spells_once, IsReply, SpellsEntry, PartsOf, reply_suits}
 use Rattle.entry_grammar.proofs.Free.{all_both, cut_once, free_by, free_number}
 use Rattle.entry_grammar.proofs.Marks.{equals, event_lacks}
 use Rattle.entry_grammar.proofs.Replies.{fits_suits, reply_once}
@@ -47,7 +47,7 @@ pub spelled_same : {line event reply : List ℕ} (m : ℕ) {n : ℕ} {entry : Ev
 spelled_same {line} {event} {reply} m {n} {entry} p h =
     let k = h.numbered in
     let r = parts_behind n (parts_number line m event reply p.0 p.1) refl (omega (arith, k.1)) (spelled_parts line n entry h) in
-    let s = cut_once 61 (event ++ codes " = " ++ reply) (event ++ 32 ∷ []) (event_text entry.0 ++ 32 ∷ []) (32 ∷ reply) (32 ∷ reply_text entry.1) (parts_around event reply p.1.asked) r.1 in
+    let s = cut_once (parts_around event reply p.1.asked) r.1 in
     (r.0, append_cancel_right event (event_text entry.0) (32 ∷ []) s.0, append_cancel_left (32 ∷ []) reply (reply_text entry.1) s.1)
 
 -- an event and a reply of its kind are determined by their texts

@@ -1,5 +1,5 @@
 -- How long the text of an entry is: that of its event, and that of a reply of its kind.
-use Rattle.entry_grammar.proofs.Prelude.{◌≡◌, ℕ, ◌*◌, ◌≤◌, nat_le, ◌&&◌, List, [], ◌∷◌, ◌++◌, Option, None, Some, length, sym, ap, length-append, leb-true, arith, AllByRecursion, list_all, and_parts, true≢false, length-decimal-le, Act, Update, Marry, Seduce, Abandon, Counts, Moved, Event, Step, Enabled, Matching, Refusal, UnknownNode, Reply, Accepted, Refused, Moves, Shown, EnabledAre, Pairs, refusal_number, refusal_text, number_text, IsName, marked_text, spaced, joined_texts, joined_or, event_text, act_word, enabled_text, move_text, mutual_text, refusal_words, field_text, counts_text, reply_text, IsMoved, IsEnabled, IsCountValue, IsCounts, entry_text, name_short, target_short, event_short, is_move, are_moves, fits, SpellsEntry}
+use Rattle.entry_grammar.proofs.Prelude.{◌≡◌, ℕ, ◌*◌, ◌≤◌, nat_le, ◌&&◌, List, [], ◌∷◌, ◌++◌, Option, None, Some, length, sym, ap, length-append, leb-true, arith, AllByRecursion, list_all, and_parts, true≢false, length-decimal-le, Act, Update, Marry, Seduce, Abandon, Counts, Moved, Event, Step, Enabled, Matching, Refusal, UnknownNode, Reply, Accepted, Refused, Moves, Shown, EnabledAre, Pairs, refusal_number, refusal_text, number_text, IsName, marked_text, spaced, joined_texts, joined_or, act_word, enabled_text, move_text, mutual_text, refusal_words, field_text, counts_text, reply_text, IsMoved, IsEnabled, IsCountValue, IsCounts, entry_text, name_short, target_short, event_short, is_move, are_moves, fits, SpellsEntry}
 use Rattle.std.proofs.Common.{IfSome, IsTrue, codes}
 use Rattle.rule_machine.specs.declared.reply.Reply.TheVariants as reply_is
 use Rattle.line_text.specs.ReplyText.{IsOrderedPair, IsReply}
@@ -25,23 +25,15 @@ IsTold m = IsMoved m × IsTrue (is_move m)
 move_short : (m : Moved) → IsTold m → length (move_text m) ≤ 18
 move_short m h =
     let deed = deed_short m.node m.act m.target h.0.1 h.1 in
-    omega (
-      arith,
-      name_short m.node h.0.0,
-      deed,
-      length-append (number_text m.node) (codes ":"),
-      length-append (number_text m.node ++ codes ":") (act_word m.act),
-      length-append (number_text m.node ++ codes ":" ++ act_word m.act) (marked_text (codes ">") m.target),
-      length-append (act_word m.act) (marked_text (codes ">") m.target),
-    )
+    omega (arith, name_short m.node h.0.0, deed, length-append {A = ℕ})
 
 enabled_short : (e : ℕ × Act) → IsEnabled e → length (enabled_text e) ≤ 18
 enabled_short e h =
-    omega (arith, name_short e.0 h, act_short e.1, length-append (number_text e.0) (codes ":"), length-append (number_text e.0 ++ codes ":") (act_word e.1))
+    omega (arith, name_short e.0 h, act_short e.1, length-append {A = ℕ})
 
 mutual_short : (p : ℕ × ℕ) → IsOrderedPair p → length (mutual_text p) ≤ 18
 mutual_short p h =
-    omega (arith, name_short p.0 h.0, name_short p.1 h.1, length-append (number_text p.0) (codes "-"), length-append (number_text p.0 ++ codes "-") (number_text p.1))
+    omega (arith, name_short p.0 h.0, name_short p.1 h.1, length-append {A = ℕ})
 
 -- ---- lists
 
@@ -59,19 +51,7 @@ listed_short : {X : Type 0} (text : X → List ℕ) (P : X → Type 0) → ((x :
 listed_short text P short [] all few = omega arith
 listed_short text P short (x ∷ xs) all few = joined_short text P short (x ∷ xs) all few
 
--- ---- a reply that fits its event
-
-fits_moves : (e : Event) (moves : List Moved) → IsTrue (fits e (Moves moves)) → IsTrue (are_moves moves)
-fits_moves (Step items) moves h = h
-fits_moves e moves h = absurd (true≢false (sym h))
-
-fits_enabled : (e : Event) (nodes : List (ℕ × Act)) → IsTrue (fits e (EnabledAre nodes)) → IsTrue (nat_le (length nodes) 65535)
-fits_enabled Enabled nodes h = h
-fits_enabled e nodes h = absurd (true≢false (sym h))
-
-fits_pairs : (e : Event) (pairs : List (ℕ × ℕ)) → IsTrue (fits e (Pairs pairs)) → IsTrue (nat_le (length pairs) 65535)
-fits_pairs Matching pairs h = h
-fits_pairs e pairs h = absurd (true≢false (sym h))
+-- ---- moves that a reply may have
 
 all_told : (moves : List Moved) → AllByRecursion IsMoved moves → IsTrue (list_all is_move moves) → AllByRecursion IsTold moves
 all_told [] named are = tt
@@ -86,25 +66,15 @@ moves_short moves named are =
 
 -- ---- the other replies
 
-number_small : (refusal : Refusal) → refusal_number refusal ≤ 13
-number_small UnknownNode = omega arith
-number_small refusal = omega arith
-
-text_short : (refusal : Refusal) → length (refusal_text refusal) ≤ 15
-text_short UnknownNode = omega arith
-text_short refusal = omega arith
+words_small : (refusal : Refusal) → (refusal_number refusal ≤ 13) × (length (refusal_text refusal) ≤ 15)
+words_small UnknownNode = (omega arith, omega arith)
+words_small refusal = (omega arith, omega arith)
 
 refusal_short : (refusal : Refusal) → length (codes "refused " ++ refusal_words refusal) ≤ 26
 refusal_short refusal =
-    let number : length (number_text (refusal_number refusal)) ≤ 2 = let small = number_small refusal in length-decimal-le 2 (refusal_number refusal) (omega arith) (omega (arith, small)) (omega (arith, small)) in
-    omega (
-      arith,
-      number,
-      text_short refusal,
-      length-append (codes "refused ") (refusal_words refusal),
-      length-append (number_text (refusal_number refusal)) (codes " "),
-      length-append (number_text (refusal_number refusal) ++ codes " ") (refusal_text refusal),
-    )
+    let small = words_small refusal in
+    let number : length (number_text (refusal_number refusal)) ≤ 2 = length-decimal-le 2 (refusal_number refusal) (omega arith) (omega (arith, small.0)) (omega (arith, small.0)) in
+    omega (arith, number, small.1, length-append {A = ℕ})
 
 -- a field, and the space before it
 field_short : (name : List ℕ) (n : ℕ) → length name ≤ 8 → IsCountValue n → length (field_text (name, n)) ≤ 18
@@ -125,11 +95,12 @@ counts_short c h =
 reply_short : (e : Event) (reply : Reply) → IsReply reply → IsTrue (fits e reply) → length (reply_text reply) ≤ 1245164
 reply_short e Accepted is h = omega arith
 reply_short e (Refused refusal) is h = omega (arith, refusal_short refusal)
-reply_short e (Moves moves) is h = moves_short moves is (fits_moves e moves h)
+reply_short (Step items) (Moves moves) is h = moves_short moves is h
 reply_short e (Shown target) is h = omega (arith, target_short target is)
-reply_short e (EnabledAre nodes) is h = listed_short enabled_text IsEnabled enabled_short nodes is (leb-true (length nodes) 65535 (fits_enabled e nodes h))
-reply_short e (Pairs pairs) is h = listed_short mutual_text IsOrderedPair mutual_short pairs is (leb-true (length pairs) 65535 (fits_pairs e pairs h))
+reply_short Enabled (EnabledAre nodes) is h = listed_short enabled_text IsEnabled enabled_short nodes is (leb-true (length nodes) 65535 h)
+reply_short Matching (Pairs pairs) is h = listed_short mutual_text IsOrderedPair mutual_short pairs is (leb-true (length pairs) 65535 h)
 reply_short e (reply_is.Counts counts) is h = counts_short counts is
+reply_short e reply is h = absurd (true≢false (sym h))
 
 -- ---- the whole line
 
@@ -139,15 +110,4 @@ entry_short line number entry spells =
     let told = event_short entry.0 spells.event in
     let given = reply_short entry.0 entry.1 spells.reply spells.fits in
     let is : length line ≡ length (entry_text number entry.0 entry.1) = ap length spells.is in
-    let front : List ℕ = number_text number ++ codes " " in
-    omega (
-      arith,
-      digits,
-      told,
-      given,
-      is,
-      length-append (number_text number) (codes " "),
-      length-append front (event_text entry.0),
-      length-append (front ++ event_text entry.0) (codes " = "),
-      length-append (front ++ event_text entry.0 ++ codes " = ") (reply_text entry.1),
-    )
+    omega (arith, digits, told, given, is, length-append {A = ℕ})

@@ -46,12 +46,12 @@ starts_cut bytes line more h = record { free = line_free line h.fits; is = h.is 
 
 -- bytes without a line feed begin with no line
 pub no_start : (bytes : List ℕ) → IsLine bytes → (line : BaseLine) (more : List ℕ) → Starts IsBaseLine base_line_text bytes line more → ⊥
-no_start bytes free line more h = free_no_cut 10 bytes (base_line_text line) more free (starts_cut bytes line more h)
+no_start bytes free line more h = free_no_cut free (starts_cut bytes line more h)
 
 -- and bytes whose first line spells none
 pub bad_start : (bytes text rest : List ℕ) → IsLine text × (bytes ≡ text ++ 10 ∷ rest) → ((line : BaseLine) → SpellsBaseLine text line → ⊥) → (line : BaseLine) (more : List ℕ) → Starts IsBaseLine base_line_text bytes line more → ⊥
 bad_start bytes text rest first none line more h =
-    let same = cut_once 10 bytes text (base_line_text line) rest more (record { free = first.0; is = first.1 }) (starts_cut bytes line more h) in
+    let same = cut_once (record { free = first.0; is = first.1 }) (starts_cut bytes line more h) in
     none line (record { fits = h.fits; is = same.0 })
 
 pub a_start : (bytes text rest : List ℕ) (line : BaseLine) → IsLine text × (bytes ≡ text ++ 10 ∷ rest) → SpellsBaseLine text line → Starts IsBaseLine base_line_text bytes line rest
@@ -60,7 +60,7 @@ a_start bytes text rest line first h = record { fits = h.fits; is = first.1 ∙ 
 -- bytes begin with one line
 pub starts_once : {bytes : List ℕ} {a b : BaseLine} {m n : List ℕ} → Starts IsBaseLine base_line_text bytes a m → Starts IsBaseLine base_line_text bytes b n → a ≡ b
 starts_once {bytes} {a} {b} {m} {n} x y =
-    let same = cut_once 10 bytes (base_line_text a) (base_line_text b) m n (starts_cut bytes a m x) (starts_cut bytes b n y) in
+    let same = cut_once (starts_cut bytes a m x) (starts_cut bytes b n y) in
     spells_base_line_once (base_line_text a) a b (record { fits = x.fits; is = refl }) (record { fits = y.fits; is = same.0 })
 
 -- a line of one kind is a line

@@ -43,12 +43,12 @@ mark_once mark (c ∷ f) (d ∷ g) x y p q e =
     (cc, t.1)
 
 -- a cut is determined
-pub cut_once : (mark : ℕ) (bytes f g x y : List ℕ) → CutAt mark bytes f x → CutAt mark bytes g y → (f ≡ g) × (x ≡ y)
-cut_once mark bytes f g x y a b = mark_once mark f g x y a.free b.free (sym a.is ∙ b.is)
+pub cut_once : {mark : ℕ} {bytes f g x y : List ℕ} → CutAt mark bytes f x → CutAt mark bytes g y → (f ≡ g) × (x ≡ y)
+cut_once {mark} {bytes} {f} {g} {x} {y} a b = mark_once mark f g x y a.free b.free (sym a.is ∙ b.is)
 
 -- a text that is free is not cut
-pub free_no_cut : (mark : ℕ) (bytes f x : List ℕ) → IsFree mark bytes → CutAt mark bytes f x → ⊥
-free_no_cut mark bytes f x h a = not_free mark f x (subst (IsFree mark) a.is h)
+pub free_no_cut : {mark : ℕ} {bytes f x : List ℕ} → IsFree mark bytes → CutAt mark bytes f x → ⊥
+free_no_cut {mark} {bytes} {f} {x} h a = not_free mark f x (subst (IsFree mark) a.is h)
 
 -- one more byte that is no mark
 pub free_more : (mark : ℕ) (bytes : List ℕ) (i : ℕ) → i < length bytes → IsFree mark (take i bytes) → get_or bytes i 0 ≢ mark → IsFree mark (take (i + 1) bytes)

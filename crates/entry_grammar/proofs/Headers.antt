@@ -24,7 +24,7 @@ header_words line words header e h =
 -- the two parts of a header after its first word
 pub header_parts : (line words front back : List ℕ) (header : Header) → line ≡ codes "matching " ++ words → CutAt 32 words front back → SpellsHeader line header → (front ≡ rules_word header.rules) × (back ≡ sizes_text header.names header.present)
 header_parts line words front back header e a h =
-    cut_once 32 words front (rules_word header.rules) back (sizes_text header.names header.present) a (header_words line words header e h)
+    cut_once a (header_words line words header e h)
 
 -- a number has no space
 pub free_size : (n : ℕ) → n ≤ 65535 → IsFree 32 (number_text n)
@@ -47,8 +47,8 @@ sizes_cut size count bytes f e less =
 pub two_said : (size count : ℕ) (bytes front back : List ℕ) → AreSizes size count → bytes ≡ sizes_text size count → CutAt 32 bytes front back → (count < size) × (front ≡ number_text size) × (back ≡ number_text count)
 two_said size count bytes front back f e at =
     elim (cases_lt count size) [
-      | inl less ↦ let p = cut_once 32 bytes front (number_text size) back (number_text count) at (sizes_cut size count bytes f e less) in (less, p.0, p.1)
-      | inr more ↦ absurd (free_no_cut 32 bytes front back (subst (IsFree 32) (sym (e ∙ sizes_all size count more)) (free_size size f.few)) at)
+      | inl less ↦ let p = cut_once at (sizes_cut size count bytes f e less) in (less, p.0, p.1)
+      | inr more ↦ absurd (free_no_cut (subst (IsFree 32) (sym (e ∙ sizes_all size count more)) (free_size size f.few)) at)
     ]
 
 -- the numbers have a text of their own

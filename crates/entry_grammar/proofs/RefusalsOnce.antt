@@ -21,8 +21,8 @@ refusal_small UnknownNode = omega arith
 refusal_small r = omega arith
 
 -- a refusal's words are cut after its number
-pub refusal_cut : (bytes : List ℕ) (r : Refusal) → bytes ≡ refusal_words r → CutAt 32 bytes (number_text (refusal_number r)) (refusal_text r)
-refusal_cut bytes r e =
+pub refusal_cut : {bytes : List ℕ} (r : Refusal) → bytes ≡ refusal_words r → CutAt 32 bytes (number_text (refusal_number r)) (refusal_text r)
+refusal_cut r e =
     record { free = free_number 32 (refusal_number r) (λ h. omega (arith, h.0)) (omega (arith, refusal_small r)); is = e ∙ append_assoc (number_text (refusal_number r)) (32 ∷ []) (refusal_text r) }
 
 -- a refusal's number is the number that its text says
@@ -34,7 +34,7 @@ number_same bytes r n h e f =
 -- a refusal has words of its own
 pub refusal_words_once : (r q : Refusal) → refusal_words r ≡ refusal_words q → r ≡ q
 refusal_words_once r q e =
-    let p = cut_once 32 (refusal_words r) (number_text (refusal_number r)) (number_text (refusal_number q)) (refusal_text r) (refusal_text q) (refusal_cut (refusal_words r) r refl) (refusal_cut (refusal_words r) q e) in
+    let p = cut_once (refusal_cut r refl) (refusal_cut q e) in
     refusal_once r q (number_same (number_text (refusal_number r)) r (refusal_number q) (refusal_small q) refl p.0)
 
 -- a number and a text that are a refusal's

@@ -29,6 +29,7 @@ pub fn one_base()
 /// Every entry's line has at most 2,031,600 bytes: less than 2 MiB (2,097,152).
 /// The longest lines are steps late in a full log, with 65,535 items that have wishes and as many moves that
 /// have targets.
+#[tactic(auto, using(crate::proofs::EntryLengths::entry_short))]
 pub fn entry_lines_are_short()
     ensures { (line : List ℕ) (number : ℕ) (entry : Event × Reply) → SpellsEntry line number entry → length line ≤ 2031600 }
 {}

@@ -1,4 +1,4 @@
-use Rattle.entry_grammar.proofs.Prelude.{◌∷◌, ◌++◌, [], arith, codes, number_once}
+use Rattle.entry_grammar.proofs.Prelude.{◌∷◌, ◌++◌, arith, codes, number_once}
 use Rattle.entry_grammar.proofs.Free.{cut_once, free_no_cut}
 use Rattle.entry_grammar.proofs.Entries.{parts_number, parts_behind, parts_made}
 use Rattle.entry_grammar.proofs.entry.parts.Goals as goal
@@ -14,16 +14,16 @@ returns-in_err-rest c = rw c.from_residual-in_err-rest.ensures (λ n e r f p.
 
 pub returns-in_err-asked : goal.returns-in_err-asked
 returns-in_err-asked c = rw c.from_residual-in_err-asked.ensures (λ n e r f p.
-    free_no_cut 61 c.in_ok-rest.rest.now (e ++ 32 ∷ []) (32 ∷ r) c.in_err-asked.ensures (parts_behind n c.in_ok-number.ensures (grind arith) f p).1)
+    free_no_cut c.in_err-asked.ensures (parts_behind n c.in_ok-number.ensures (grind arith) f p).1)
 
 pub returns-in_err-event : goal.returns-in_err-event
 returns-in_err-event c = rw c.from_residual-in_err-event.ensures (λ n e r f p.
-    let q = cut_once 61 c.in_ok-rest.rest.now c.in_ok-asked.asked.now (e ++ 32 ∷ []) c.in_ok-asked.answered.now (32 ∷ r) c.in_ok-asked.ensures (parts_behind n c.in_ok-number.ensures (grind arith) f p).1 in
+    let q = cut_once c.in_ok-asked.ensures (parts_behind n c.in_ok-number.ensures (grind arith) f p).1 in
     c.in_err-event.ensures e (grind (arith, q.0)))
 
 pub returns-in_err-reply : goal.returns-in_err-reply
 returns-in_err-reply c = rw c.from_residual-in_err-reply.ensures (λ n e r f p.
-    let q = cut_once 61 c.in_ok-rest.rest.now c.in_ok-asked.asked.now (e ++ 32 ∷ []) c.in_ok-asked.answered.now (32 ∷ r) c.in_ok-asked.ensures (parts_behind n c.in_ok-number.ensures (grind arith) f p).1 in
+    let q = cut_once c.in_ok-asked.ensures (parts_behind n c.in_ok-number.ensures (grind arith) f p).1 in
     c.in_err-reply.ensures r (grind (arith, q.1)))
 
 pub returns : goal.returns

@@ -1,4 +1,4 @@
-use Rattle.entry_grammar.proofs.Prelude.{◌≡◌, refl, sym, subst, ◌∙◌, arith, IsTrue, Event, Step, codes, ◌++◌, List, ℕ, number_text, event_text, reply_text, fits, reply_suits, spells_once}
+use Rattle.entry_grammar.proofs.Prelude.{◌≡◌, refl, sym, subst, ◌∙◌, arith, IsTrue, Event, Step, codes, ◌++◌, List, ℕ, number_text, event_text, reply_text, reply_suits, spells_once}
 use Rattle.entry_grammar.proofs.BaseBreaks.{by_error}
 use Rattle.entry_grammar.proofs.Entries.{pair_is, spelled_parts, spelled_same}
 use Rattle.entry_grammar.proofs.Replies.{fits_suits}

@@ -4,7 +4,7 @@ use Rattle.entry_grammar.proofs.header.find_header.Goals as goal
 
 pub returns-in_err-word : goal.returns-in_err-word
 returns-in_err-word c = rw c.from_residual-in_err-word.ensures (λ header h.
-    free_no_cut 32 c.in_ok-words.words.now _ _ c.in_err-word.ensures (header_words c.args.line.now c.in_ok-words.words.now header c.in_ok-words.ensures h))
+    free_no_cut c.in_err-word.ensures (header_words c.args.line.now c.in_ok-words.words.now header c.in_ok-words.ensures h))
 
 pub returns-in_err-rules : goal.returns-in_err-rules
 returns-in_err-rules c = rw c.from_residual-in_err-rules.ensures (λ header h.
