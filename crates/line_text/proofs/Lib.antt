@@ -1,12 +1,9 @@
 pub mod Prelude
-pub mod Decimals
-pub mod ZeroDigits
 pub mod Windows
 pub mod TextGrowth
-pub mod Spaces
 pub mod Digits
-pub mod Grammars
 pub mod FewDigits
+pub mod Grammars
 pub mod ItemsOnce
 pub mod EventsOnce
 pub mod EventLengths

@@ -1,5 +1,5 @@
 -- What the proofs of this crate import from the crates below and from its own definitions.
-pub use Rattle.std.proofs.Common.{◌≡◌, ℕ, zero, suc, ◌+◌, ◌-◌, ◌*◌, ◌/◌, ◌%◌, ◌<◌, ◌≤◌, Bool, true, ◌&&◌, T, eqb, eqb→eq, ◌∷◌, ◌++◌, get_or, inl, inr, eq-zero-or-pos, arith, List, length, take, drop, refl, sym, ap, subst, ◌∙◌, append_assoc, false, Option, None, Some, codes, length-append, ◌^◌, ap₂, ◌≢◌, Result, Ok, Err, OnErr, w64, add-one, not, []}
+pub use Rattle.std.proofs.Common.{◌≡◌, ℕ, zero, suc, ◌+◌, ◌-◌, ◌*◌, ◌/◌, ◌%◌, ◌<◌, ◌≤◌, Bool, true, ◌&&◌, T, eqb, eqb→eq, ◌∷◌, ◌++◌, get_or, inl, inr, eq-zero-or-pos, arith, List, length, take, drop, refl, sym, ap, subst, ◌∙◌, append_assoc, false, Option, None, Some, codes, length-append, ◌^◌, ap₂, ◌≢◌, Result, Ok, Err, OnErr, w64, add-one, []}
 pub use Rattle.std.proofs.Math.Nat.{div-div-eq-div-mul}
 pub use Rattle.std.proofs.Math.Seq.{take-append_seam, take-append-add}
 pub use Rattle.std.proofs.lemmas.Bool.{cases_lt}

@@ -1,12 +1,5 @@
-use Rattle.line_text.proofs.Prelude.{◌≡◌, ℕ, Bool, true, false, not, Ok, Result, refl, sym, subst, ap, ◌∙◌, IsAscii, other_text, IsUtf8-from_ascii, IsAscii-decimal, parse-decimal, number_text}
+use Rattle.line_text.proofs.Prelude.{arith, ◌≡◌, sym, subst, ap, ◌∙◌, IsAscii, other_text, IsUtf8-from_ascii, IsAscii-decimal, parse-decimal, number_text}
 use Rattle.line_text.proofs.numeral.read_long.Goals as goal
-
-same_ok : {E : Type 0} (r : Result ℕ E) (m n : ℕ) → r ≡ Ok m → r ≡ Ok n → m ≡ n
-same_ok r m n d e = cc
-
-off : (b : Bool) → true ≡ not b → false ≡ b
-off true e = sym e
-off false e = refl
 
 pub returns-in_default : goal.returns-in_default
 returns-in_default c n small e =
@@ -19,5 +12,5 @@ returns-in_default-from_str_radix c n small e =
 pub returns-then-ne : goal.returns-then-ne
 returns-then-ne c n small e =
     let parsed = parse-decimal 64 n c.in-Ok.digits.now c.from_str_radix.result small small (c.in-Ok.ensures.cases.0 ∙ e) c.from_str_radix.ensures.value in
-    let same : c.in-Ok-from_str_radix.number ≡ n = same_ok c.from_str_radix.result c.in-Ok-from_str_radix.number n c.in-Ok-from_str_radix.is parsed in
-    other_text c.as_bytes.result.now c.args.bytes.now (off _ c.if-ne.ensures) (c.as_bytes.ensures.value ∙ c.format.ensures.text ∙ ap number_text same ∙ sym e)
+    let same : c.in-Ok-from_str_radix.number ≡ n = cc (c.in-Ok-from_str_radix.is) in
+    other_text c.as_bytes.result.now c.args.bytes.now (grind (arith, c.if-ne.ensures)) (c.as_bytes.ensures.value ∙ c.format.ensures.text ∙ ap number_text same ∙ sym e)

@@ -1,4 +1,4 @@
-use Rattle.line_text.proofs.ZeroDigits.{zeros_led}
+use Rattle.line_text.proofs.Windows.{zeros_led}
 use Rattle.line_text.proofs.room.leading_zeros.Goals as goal
 
 pub returns : goal.returns

@@ -1,5 +1,5 @@
 use Rattle.std.proofs.Common.{◌∙◌}
-use Rattle.line_text.proofs.Decimals.{PAIRS_at}
+use Rattle.line_text.proofs.Windows.{PAIRS_at}
 use Rattle.line_text.proofs.room.pair.Goals as goal
 
 pub returns : goal.returns

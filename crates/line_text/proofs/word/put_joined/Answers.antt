@@ -1,5 +1,5 @@
 use Rattle.std.proofs.Common.{◌<◌, length, arith}
-use Rattle.line_text.proofs.Spaces.{left_joined}
+use Rattle.line_text.proofs.TextGrowth.{left_joined}
 use Rattle.line_text.proofs.word.put_joined.Goals as goal
 
 pub returns-clause-ok : goal.returns-clause-ok

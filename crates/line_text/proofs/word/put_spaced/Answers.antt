@@ -1,4 +1,4 @@
-use Rattle.line_text.proofs.Spaces.{left_spaced}
+use Rattle.line_text.proofs.TextGrowth.{left_spaced}
 use Rattle.line_text.proofs.word.put_spaced.Goals as goal
 
 pub returns-clause-ok : goal.returns-clause-ok
