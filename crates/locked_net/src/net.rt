@@ -98,7 +98,7 @@ impl<R: Rules> LockedNet<R> {
 
     /// The network of a journal without entries: its log begins at the journal's base, if any.
     /// If the journal counts rounds, the network counts on.
-    /// New journals, and those of `from_base` and `of_net`, have as many nodes as at their beginning. A journal
+    /// New journals, and those of `of_net`, have as many nodes as at their beginning. A journal
     /// with a checkpoint after joins or leaves may not.
     /// `AllocError` if memory runs out. Costs a board, and what a checkpoint costs if there is a base.
     pub fn of_journal<W: Wait>(

@@ -15,6 +15,7 @@ ghost use Rattle.run_session.specs.Line.{progress, progress_of, EventEnds, SomeT
 
 use crate::{LineError, read_command};
 use line_text::{put_base, put_header};
+use rule_engine::Net;
 use rule_machine::{Event, Reply, RuleSet, Rules, Want};
 use script_text::{Command, Turns};
 use seeded_turns::{EventSource, daemon_of_seed, injector_of_seed};
@@ -46,9 +47,10 @@ impl<R: Rules> Run<R> {
         ensures begins { IfOk result (λ run. progress_of run ≡ first_progress rules nodes present) }
         ensures limit { IfOk result (λ run. run.recorder.limit ≡ min limit 16777216) }
     {
-        let Ok(recorder) = Recorder::with_present(alloc, nodes, present, limit) else {
+        let Ok(net) = Net::with_present(alloc, nodes, present) else {
             return Err(AllocError);
         };
+        let recorder = Recorder::of_net(net, 0, limit);
         let mut text = Vec::new(alloc);
         put_header(&mut text, rules, nodes, present)?;
         Ok(Run {

@@ -1,42 +1,27 @@
 -- The count of a journal's rounds is that of the kept entries since it began.
-use Rattle.step_log.proofs.Prelude.{◌≡◌, ◌∙◌, ◌⊎◌, inl, inr, ℕ, ◌+◌, ◌≤◌, List, [], ◌∷◌, ◌++◌, length, get_or, drop, None, Option, Some, IfSome, refl, sym, ap, ap₂, subst, arith, length-append, append-nil, Event, Reply, Accepted, State, RuleTable, Answers, spent_after, Entry, Moment, Run, BeginsAt, dropped, charge_bound, runs_keep_size, answer_followed, followed, RoundCount, count_of_log, first_count, next_count, next_counting, rounds_of, over_after, begun_by, All, IsRetainedRun, LeadsTo, RetainedLog, last_number, moment_in, IsJournal, Epoch, EpochStart}
+use Rattle.step_log.proofs.Prelude.{◌≡◌, ◌∙◌, ◌⊎◌, inl, inr, ℕ, ◌+◌, ◌≤◌, List, [], ◌∷◌, ◌++◌, length, take, drop, None, Option, Some, IfSome, refl, sym, ap, subst, arith, length-append, append-nil, Event, Reply, Accepted, State, RuleTable, Answers, spent_after, Entry, Moment, Run, Base, BeginsAt, begun_at, dropped, charge_bound, runs_keep_size, answer_followed, followed, RoundCount, count_of_log, first_count, next_count, next_counting, rounds_of, over_after, begun_by, All, IsRetainedRun, LeadsTo, RetainedLog, last_number, moment_in, IsJournal, Epoch, EpochStart}
 use Rattle.round_laws.proofs.RoundCounts.{last_after}
 use Rattle.round_laws.specs.Pieces.{state_from}
 use Rattle.step_log.proofs.HeadlineProof.{from_there, run_goes_on}
 use Rattle.step_log.proofs.Once.{run_once}
 use Rattle.step_log.proofs.EpochRounds.{all_over_here, current_next, ended_next, no_entries}
 use Rattle.step_log.specs.JournalRounds.{BeginsAfter, CountsAfter, CountsKept, EndsDisturbed, IsCountedJournal, IsOver}
+use Rattle.std.proofs.lemmas.List.{drop-append-le, drop_at, length_push, same_from_push, take-append-drop, take-append-le, take_at}
 use Rattle.std.proofs.lemmas.List.Elements.{All-nil}
 
 -- ---- lists of entries
 
 -- where a list with one more entry is cut in two, that entry is the last of the second part, or ends the first
 pub ends_in : (before after all : List Entry) (e : Entry) → before ++ after ≡ all ++ e ∷ [] → ((after ≡ []) × (before ≡ all ++ e ∷ [])) ⊎ ((init : List Entry) × (after ≡ init ++ e ∷ []) × (before ++ init ≡ all))
-ends_in [] after all e same = inr (all, same, refl)
-ends_in (b ∷ before) after [] e same = inl (none before after (ap (drop 1) same), ap₂ (λ (x : Entry) (l : List Entry). x ∷ l) (ap (λ l. get_or l 0 b) same) (first before after (ap (drop 1) same)))
-  where
-    none : (xs ys : List Entry) → xs ++ ys ≡ [] → ys ≡ []
-    none [] ys is = is
-    none (x ∷ xs) ys is = absurd (let n = ap length is in omega (arith, n))
-
-    first : (xs ys : List Entry) → xs ++ ys ≡ [] → xs ≡ []
-    first [] ys is = refl
-    first (x ∷ xs) ys is = absurd (let n = ap length is in omega (arith, n))
-ends_in (b ∷ before) after (a ∷ all) e same = more (ends_in before after all e (ap (drop 1) same))
-  where
-    head : b ≡ a
-    head = ap (λ l. get_or l 0 b) same
-
-    more : ((after ≡ []) × (before ≡ all ++ e ∷ [])) ⊎ ((init : List Entry) × (after ≡ init ++ e ∷ []) × (before ++ init ≡ all)) → ((after ≡ []) × (b ∷ before ≡ a ∷ all ++ e ∷ [])) ⊎ ((init : List Entry) × (after ≡ init ++ e ∷ []) × (b ∷ before ++ init ≡ a ∷ all))
-    more (inl (none, is)) = inl (none, ap₂ (λ (x : Entry) (l : List Entry). x ∷ l) head is)
-    more (inr (init, is, rest)) = inr (init, is, ap₂ (λ (x : Entry) (l : List Entry). x ∷ l) head rest)
-
--- lists that are the same have the same last entry
-pub same_last : (xs ys : List Entry) (x y : Entry) → xs ++ x ∷ [] ≡ ys ++ y ∷ [] → x ≡ y
-same_last [] [] x y same = ap (λ l. get_or l 0 x) same
-same_last [] (v ∷ ys) x y same = absurd (let n = ap length same in let m = length-append ys (y ∷ []) in omega (arith, n, m))
-same_last (u ∷ xs) [] x y same = absurd (let n = ap length same in let m = length-append xs (x ∷ []) in omega (arith, n, m))
-same_last (u ∷ xs) (v ∷ ys) x y same = same_last xs ys x y (ap (drop 1) same)
+ends_in before [] all e same = inl (refl, sym (append-nil before) ∙ same)
+ends_in before (x ∷ after) all e same =
+    let n = length before in
+    let few : n ≤ length all = omega (arith, length-append before (x ∷ after), length_push all e, ap length same) in
+    inr (
+      drop n all,
+      sym (drop_at before (x ∷ after) n refl) ∙ ap (drop n) same ∙ drop-append-le n all (e ∷ []) few,
+      ap (λ l. l ++ drop n all) (sym (take_at before (x ∷ after) n refl) ∙ ap (take n) same ∙ take-append-le n all (e ∷ []) few) ∙ take-append-drop n all,
+    )
 
 pub not_disturbed : EndsDisturbed [] → ⊥
 not_disturbed ends = let n = ap length ends.are in let m = length-append ends.before ((ends.event, Accepted) ∷ []) in omega (arith, n, m)
@@ -56,33 +41,31 @@ ends_there t weight kept k entries m all there =
 
 -- ---- the count
 
--- no epoch is over
-none_over : (t : RuleTable) (weight : ℕ) (kept : RetainedLog) (from : Option ℕ) (counting : Option RoundCount) (over : List Epoch) → over ≡ [] → All (IsOver t weight kept from counting) over
-none_over t weight kept from counting over none = subst (λ (l : List Epoch). All (IsOver t weight kept from counting) l) (sym none) (All-nil (IsOver t weight kept from counting))
-
--- without a count there is nothing to say, before any entry
-pub uncounted : (t : RuleTable) (weight : ℕ) (kept : RetainedLog) (over : List Epoch) (begun : EpochStart) (counting : Option RoundCount) → counting ≡ None → kept.entries ≡ [] → over ≡ [] → BeginsAfter (dropped kept.base) [] begun → IsJournal t weight kept over begun → IsCountedJournal t weight kept over begun None counting
-uncounted t weight kept over begun counting none empty first starts is = record {
+-- no epoch is over, and no entry is kept
+begun_anew : (t : RuleTable) (weight : ℕ) (kept : RetainedLog) (over : List Epoch) (begun : EpochStart) (from : Option ℕ) (counting : Option RoundCount) → kept.entries ≡ [] → over ≡ [] → begun ≡ begun_at kept.base → IsJournal t weight kept over begun → IfSome from (λ number. number ≤ last_number kept) → (CountsAfter (dropped kept.base) from [] → IfSome counting (λ count. count ≡ first_count t kept.state))
+    → IsCountedJournal t weight kept over begun from counting
+begun_anew t weight kept over begun from counting none empty starts is within first = record {
   journal = is;
-  within = tt;
-  counts = λ before after m same there begins. subst (λ (o : Option RoundCount). IfSome o (λ count. count ≡ count_of_log t m.state after)) (sym none) tt;
-  ended = none_over t weight kept None counting over first;
-  current = no_entries kept begun empty starts;
-}
-
--- counting began before the base, and nothing is kept
-pub counted_before : (t : RuleTable) (weight : ℕ) (kept : RetainedLog) (over : List Epoch) (begun : EpochStart) (counting : Option RoundCount) → kept.entries ≡ [] → over ≡ [] → BeginsAfter (dropped kept.base) [] begun → IsJournal t weight kept over begun → IsCountedJournal t weight kept over begun None counting
-counted_before t weight kept over begun counting none empty starts is = record {
-  journal = is;
-  within = tt;
-  counts = λ before after m same there begins. absurd (not_disturbed (subst EndsDisturbed (first before after (same ∙ none)) begins));
-  ended = none_over t weight kept None counting over empty;
-  current = no_entries kept begun none starts;
+  within = within;
+  counts = λ before after m all there begins. let both = split before after (all ∙ none) in
+      subst (λ (l : List Entry). IfSome counting (λ count. count ≡ count_of_log t m.state l)) (sym both.1)
+      (subst (λ (u : Moment). IfSome counting (λ count. count ≡ first_count t u.state)) (sym (ends_there t weight kept is.is_kept before m (both.0 ∙ sym none) there)) (first (subst (CountsAfter (dropped kept.base) from) both.0 begins)));
+  ended = subst (λ (l : List Epoch). All (IsOver t weight kept from counting) l) (sym empty) (All-nil (IsOver t weight kept from counting));
+  current = no_entries kept begun none (subst (BeginsAfter (dropped kept.base) []) (sym starts) (at_base kept.base));
 }
   where
-    first : (xs ys : List Entry) → xs ++ ys ≡ [] → xs ≡ []
-    first [] ys is = refl
-    first (x ∷ xs) ys is = absurd (let n = ap length is in omega (arith, n))
+    split : (xs ys : List Entry) → xs ++ ys ≡ [] → (xs ≡ []) × (ys ≡ [])
+    split [] ys all = (refl, all)
+    split (x ∷ xs) ys all = absurd (let n = ap length all in omega (arith, n))
+
+    at_base : (base : Option Base) → BeginsAfter (dropped base) [] (begun_at base)
+    at_base None = omega arith
+    at_base (Some base) = refl
+
+-- counting began before the base, if at all
+pub counted_before : (t : RuleTable) (weight : ℕ) (kept : RetainedLog) (over : List Epoch) (begun : EpochStart) (counting : Option RoundCount) → kept.entries ≡ [] → over ≡ [] → begun ≡ begun_at kept.base → IsJournal t weight kept over begun → IsCountedJournal t weight kept over begun None counting
+counted_before t weight kept over begun counting none empty starts is =
+    begun_anew t weight kept over begun None counting none empty starts is tt (λ ends. absurd (not_disturbed ends))
 
 -- counting begins
 pub counted_here : (t : RuleTable) (weight : ℕ) (kept : RetainedLog) (over : List Epoch) (begun : EpochStart) (from : Option ℕ) (before : Option RoundCount) (number : ℕ) (counting : Option RoundCount) → number ≡ last_number kept → counting ≡ Some (first_count t kept.state) → IsCountedJournal t weight kept over begun from before → IsCountedJournal t weight kept over begun (Some number) counting
@@ -145,9 +128,9 @@ counted_next t weight kept over next_over begun next_begun from counting counted
     earlier before n (start, starts, run) = (start, subst (λ (z : ℕ). BeginsAt t (charge_bound weight) z kept.present kept.base start) size starts, run)
 
     disturbed : (from : Option ℕ) → IfSome from (λ number. number ≤ last_number kept) → (before : List Entry) → before ≡ kept.entries ++ (event, reply) ∷ [] → CountsAfter (dropped kept.base) from before → reply ≡ Accepted
-    disturbed None within before all ends = ap (λ (e : Entry). e.1) (same_last kept.entries ends.before (event, reply) (ends.event, Accepted) (sym all ∙ ends.are))
+    disturbed None within before all ends = ap (λ (e : Entry). e.1) ((same_from_push kept.entries ends.before (event, reply) (ends.event, Accepted) (sym all ∙ ends.are)).1)
     disturbed (Some number) within before all (inl here) = absurd (let n = ap length all in let l = length-append kept.entries ((event, reply) ∷ []) in omega (arith, within, here, n, l))
-    disturbed (Some number) within before all (inr (below, ends)) = ap (λ (e : Entry). e.1) (same_last kept.entries ends.before (event, reply) (ends.event, Accepted) (sym all ∙ ends.are))
+    disturbed (Some number) within before all (inr (below, ends)) = ap (λ (e : Entry). e.1) ((same_from_push kept.entries ends.before (event, reply) (ends.event, Accepted) (sym all ∙ ends.are)).1)
 
     cases : (before after : List Entry) (n : Moment) → before ++ after ≡ entries → LeadsTo t weight new before n → CountsAfter (dropped kept.base) from before → ((after ≡ []) × (before ≡ kept.entries ++ (event, reply) ∷ [])) ⊎ ((init : List Entry) × (after ≡ init ++ (event, reply) ∷ []) × (before ++ init ≡ kept.entries)) → IfSome (next_counting t reply m.state counting) (λ count. count ≡ count_of_log t n.state after)
     cases before after n same there begins (inl (none, all)) =
@@ -163,26 +146,17 @@ counted_next t weight kept over next_over begun next_begun from counting counted
         (next_of t kept.state n init event reply m.state counting (run_state t n init (moment_in kept) run) (answer_followed t kept.state kept.spent event reply m.state answers) (is.counts before init n rest was begins))
 
 -- a checkpoint changes no count
-pub counted_again : (t : RuleTable) (weight : ℕ) (kept new : RetainedLog) (over next_over : List Epoch) (begun next_begun : EpochStart) (from : Option ℕ) (counting : Option RoundCount) → IsCountedJournal t weight kept over begun from counting → moment_in new ≡ moment_in kept → new.entries ≡ [] → dropped new.base ≡ last_number kept → next_over ≡ [] → BeginsAfter (dropped new.base) [] next_begun → IsJournal t weight new next_over next_begun → IsCountedJournal t weight new next_over next_begun from counting
-counted_again t weight kept new over next_over begun next_begun from counting is same none number empty starts journal = record {
-  journal = journal;
-  within = still from is.within;
-  counts = λ before after n all there begins. let both = split before after (all ∙ none) in
-      subst (λ (l : List Entry). IfSome counting (λ count. count ≡ count_of_log t n.state l)) (sym both.1)
-      (subst (λ (u : Moment). IfSome counting (λ count. count ≡ first_count t u.state)) (sym (ends_there t weight new journal.is_kept before n (both.0 ∙ sym none) there ∙ same)) (here from is.counts (subst (CountsAfter (dropped new.base) from) both.0 begins)));
-  ended = none_over t weight new from counting next_over empty;
-  current = no_entries new next_begun none starts;
-}
+pub counted_again : (t : RuleTable) (weight : ℕ) (kept new : RetainedLog) (over next_over : List Epoch) (begun next_begun : EpochStart) (from : Option ℕ) (counting : Option RoundCount) → IsCountedJournal t weight kept over begun from counting → new.state ≡ kept.state → new.entries ≡ [] → dropped new.base ≡ last_number kept → next_over ≡ [] → next_begun ≡ begun_at new.base → IsJournal t weight new next_over next_begun → IsCountedJournal t weight new next_over next_begun from counting
+counted_again t weight kept new over next_over begun next_begun from counting is same none number empty starts journal =
+    begun_anew t weight new next_over next_begun from counting none empty starts journal (still from is.within) (here from is.counts)
   where
-    split : (xs ys : List Entry) → xs ++ ys ≡ [] → (xs ≡ []) × (ys ≡ [])
-    split [] ys all = (refl, all)
-    split (x ∷ xs) ys all = absurd (let n = ap length all in omega (arith, n))
-
     still : (from : Option ℕ) → IfSome from (λ number. number ≤ last_number kept) → IfSome from (λ number. number ≤ last_number new)
     still None within = tt
     still (Some first) within = let l = ap length none in omega (arith, within, number, l)
 
-    here : (from : Option ℕ) → CountsKept t weight kept from counting → CountsAfter (dropped new.base) from [] → IfSome counting (λ count. count ≡ first_count t kept.state)
+    here : (from : Option ℕ) → CountsKept t weight kept from counting → CountsAfter (dropped new.base) from [] → IfSome counting (λ count. count ≡ first_count t new.state)
     here None counts ends = absurd (not_disturbed ends)
-    here (Some first) counts (inl at) = counts kept.entries [] (moment_in kept) (append-nil kept.entries) (is.journal.is_kept.start, is.journal.is_kept.begins, is.journal.is_kept.run) (inl (omega (arith, at, number)))
+    here (Some first) counts (inl at) =
+        subst (λ (s : State). IfSome counting (λ count. count ≡ first_count t s)) (sym same)
+        (counts kept.entries [] (moment_in kept) (append-nil kept.entries) (is.journal.is_kept.start, is.journal.is_kept.begins, is.journal.is_kept.run) (inl (omega (arith, at, number))))
     here (Some first) counts (inr (below, ends)) = absurd (not_disturbed ends)

@@ -8,6 +8,5 @@ pub mod EpochPaths
 pub mod HeadlineProof
 pub mod ReceiptMarks
 pub mod SettlementFaults
-pub mod BaseStarts
 pub mod EpochRounds
 pub mod KeptRounds

@@ -1,5 +1,5 @@
--- One more entry at the end of what a journal keeps, and a checkpoint.
-use Rattle.step_log.proofs.Prelude.{◌≡◌, ℕ, ◌+◌, ◌<◌, ◌≤◌, true, List, [], ◌∷◌, ◌++◌, length, map, Some, refl, sym, ap, ap₂, ◌∙◌, subst, arith, length-append, EpochStart, At, Forgotten, Event, Reply, IsState, RuleTable, reply_of, state_after, spent_by, Entry, Moment, beginning_with, moment_after, open_at, BeginsAt, base_of, begun_at, dropped, IsTable, least_answers, runs_end_in_states, run_add, runs_keep_size, IsFlagless, begins_in_state, may_begin_again, charge_bound, IsCharged, fits, Epoch, IsEpochPath, begun_by, ended_by, of_run, IsJournal, RetainedLog, IsRetainedRun, IsBaseOfGraph, checkpointed, kept_with, last_number, moment_in, next_entry, whole, empty_log_with, max_entries}
+-- One more entry at the end of what a journal keeps, and a journal without entries.
+use Rattle.step_log.proofs.Prelude.{◌≡◌, ℕ, ◌+◌, ◌<◌, ◌≤◌, true, List, [], ◌∷◌, ◌++◌, length, map, refl, sym, ap, ap₂, ◌∙◌, subst, arith, length-append, EpochStart, Event, Reply, IsState, RuleTable, reply_of, state_after, spent_by, Entry, Moment, Run, moment_after, open_at, BeginsAt, begun_at, dropped, IsTable, least_answers, runs_end_in_states, run_add, runs_keep_size, begins_in_state, charge_bound, fits, Epoch, IsEpochPath, begun_by, ended_by, of_run, IsJournal, RetainedLog, Begins, IsRetainedRun, IsBaseOfGraph, kept_with, last_number, moment_in, next_entry, max_entries}
 use Rattle.step_log.proofs.ReplyKinds.{nodes_few, reply_fits}
 use Rattle.step_log.proofs.EpochPaths.{told_add}
 
@@ -51,32 +51,17 @@ next_is_journal t weight table kept over begun is below event reply m entries ne
     (subst (λ (l : RetainedLog). IsJournal t weight l next (begun_by (reply_of t kept.state kept.spent event) (last_number kept + 1) begun)) (sym (ap₂ (λ (n : Moment) (es : List Entry). record { state = n.state; spent = n.spent; base = kept.base; entries = es; limit = kept.limit; present = kept.present }) after held))
     (kept_with_is_journal t weight table kept over begun is below event next over_is))
 
--- with its network's moment as the base, and no entry
-pub checkpointed_is_journal : (t : RuleTable) (weight : ℕ) → IsTable t → IsCharged t weight → IsFlagless t → (kept : RetainedLog) → IsRetainedRun t weight kept → IsBaseOfGraph (Some (base_of (last_number kept) (moment_in kept))) → (over : List Epoch) → over ≡ [] → IsJournal t weight (checkpointed kept) over Forgotten
-checkpointed_is_journal t weight table charged flagless kept k short over none = record {
+-- without an entry, if what is kept may begin at the network's moment
+pub fresh_is_journal : (t : RuleTable) (weight : ℕ) (kept : RetainedLog) (over : List Epoch) (begun : EpochStart) → kept.entries ≡ [] → over ≡ [] → begun ≡ begun_at kept.base → Begins t weight kept (moment_in kept) → kept.state.network.size ≤ 65535 → dropped kept.base ≤ kept.limit → kept.limit ≤ max_entries → IsBaseOfGraph kept.base → IsJournal t weight kept over begun
+fresh_is_journal t weight kept over begun none empty starts begins small room within short = record {
   is_kept = record {
     start = moment_in kept;
-    begins = may_begin_again t weight table charged flagless kept.state.network.size kept.present (last_number kept) kept.base k.start k.begins kept.entries (moment_in kept) k.run;
-    run = refl;
-    size = k.size;
-    room = omega (arith, k.room);
-    limit = k.limit;
+    begins = begins;
+    run = subst (λ (l : List Entry). Run t (moment_in kept) l (moment_in kept)) (sym none) refl;
+    size = small;
+    room = omega (arith, room, ap length none);
+    limit = within;
     short = short;
   };
-  told = record { path = []; entries = refl; is_path = tt; ends = refl; ended = ap (map of_run) none; goes_on = refl };
-}
-
--- before any entry
-pub opening_is_journal : (t : RuleTable) (weight : ℕ) (size first limit : ℕ) → size ≤ 65535 → limit ≤ max_entries → (over : List Epoch) → over ≡ [] → IsJournal t weight (whole (empty_log_with size first limit)) over (At 0)
-opening_is_journal t weight size first limit small within over none = record {
-  is_kept = record {
-    start = beginning_with size first;
-    begins = refl;
-    run = refl;
-    size = small;
-    room = omega arith;
-    limit = within;
-    short = tt;
-  };
-  told = record { path = []; entries = refl; is_path = tt; ends = refl; ended = ap (map of_run) none; goes_on = refl };
+  told = record { path = []; entries = sym none; is_path = tt; ends = refl; ended = ap (map of_run) empty; goes_on = ap (λ (s : EpochStart). open_at s (moment_in kept)) (sym starts) };
 }

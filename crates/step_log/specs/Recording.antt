@@ -1,7 +1,7 @@
 -- The progress of a recording, and recording an event.
-use Rattle.std.specs.Prelude.{ℕ, ◌+◌, ◌≤◌, List, Option, None, Some, max, min}
+use Rattle.std.specs.Prelude.{ℕ, ◌+◌, ◌≤◌, List, Option, Some, max, min}
 use Rattle.rule_machine.specs.declared.event.Event.{Event}
-use Rattle.rule_machine.specs.State.{State, IsState, opening_with}
+use Rattle.rule_machine.specs.State.{State, IsState}
 use Rattle.rule_machine.specs.Network.{node_count}
 use Rattle.rule_machine.specs.RuleTable.{RuleTable}
 use Rattle.rule_machine.specs.Run.{Moment}
@@ -29,11 +29,6 @@ pub record IsRecording (r : Recording) : Type 0 where
   pub is_state : IsState r.state
   pub room : r.len ≤ r.limit
   pub limit : r.limit ≤ max_entries
-
--- the recording before any event; the names 1 to `present` are nodes, and rounds are not counted
-abbrev pub opening_recording_with : ℕ → ℕ → ℕ → Recording
-opening_recording_with size present limit =
-    record { state = opening_with size present; spent = 0; len = 0; limit = limit; present = present; counting = None }
 
 -- the recording that goes on at a moment, with this count of rounds, after this many entries, which the limit
 -- includes

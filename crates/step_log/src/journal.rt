@@ -4,6 +4,8 @@ ghost use Rattle.std.specs.Prelude.{◌≡◌, ◌<◌, ◌≤◌, ◌+◌, ◌-
 ghost use Rattle.graph_store.specs.Fault.{nodes_fault, ExplainsGraphFault};
 ghost use Rattle.rule_machine.specs.declared.event.Event.TheVariants.{Step};
 ghost use Rattle.rule_engine.specs.ChoiceMoves.{verdicts_of};
+ghost use Rattle.rule_engine.specs.PreparedEvents.{net_moment};
+ghost use Rattle.step_log.specs.BaseStarts.{resumed_log};
 ghost use Rattle.step_log.specs.declared.fault.RecordFault.TheVariants.{LogFull};
 ghost use Rattle.step_log.specs.declared.fault.NoEntry.TheVariants.{Forgotten, Beyond};
 ghost use Rattle.round_laws.specs.RoundCounts.{next_counting};
@@ -19,7 +21,7 @@ use crate::epoch::Epochs;
 use crate::{Epoch, MAX_ENTRIES, NoEntry, Prepared, Receipt, RecordFault};
 use log_entry::Entry;
 use rule_engine::{Choice, Event, GraphFault, Net, Node, Reply, Rules, Verdict, Want};
-use rule_machine::{Base, EpochStart};
+use rule_machine::{Base, EpochStart, MAX_NAME};
 use std::alloc::Global;
 use std::marker::Model;
 use std::mem::size_of;
@@ -115,6 +117,29 @@ impl<R: Rules> Journal<R> {
             limit: limit.min(MAX_ENTRIES),
             present,
             epochs: Epochs::new(alloc, EpochStart::At(0)),
+            counted_from: None,
+        })
+    }
+
+    /// The journal of a network that goes on after `number` entries: the base is the network's moment.
+    /// The limit is that of `Recorder::of_net`. It counts rounds if the network does.
+    /// `AllocError` if memory runs out. Costs what a checkpoint costs.
+    pub fn of_net(alloc: Global, net: Net<R>, number: u32, limit: u32) -> Result<Journal<R>, Want>
+        requires few { number ≤ max_entries }
+        ensures kept { IfOk result (λ journal. kept_of journal ≡ resumed_log (net_moment net) number limit) }
+        ensures counting { IfOk result (λ journal. journal.counting ≡ net.counting) }
+    {
+        let base = net.base(number)?;
+        let present = net.store().nodes();
+        prove!(net.store().capacity() <= MAX_NAME);
+        Ok(Journal {
+            alloc,
+            net,
+            base: Some(base),
+            entries: Vec::new(alloc),
+            limit: number.max(limit.min(MAX_ENTRIES)),
+            present,
+            epochs: Epochs::new(alloc, EpochStart::Forgotten),
             counted_from: None,
         })
     }

@@ -1,8 +1,8 @@
 //! Networks that number their entries: the recorder keeps no entry, and the journal keeps a log.
 //!
 //! A `Recorder` hands out each entry's number, reply and text. A `Journal` keeps the log from the start or
-//! from the last checkpoint, whose base replaces the dropped entries; numbers continue. A journal can also
-//! begin at a base (`from_base`), and both go on with a given network (`of_net`).
+//! from the last checkpoint, whose base replaces the dropped entries; numbers continue. Both go on with a given
+//! network (`of_net`), as with one that begins at a base.
 //!
 //! The type of a journal states three facts (`Upholds`): the kept log is a run of the rule machine to the
 //! network's state; each reply is the machine's; each epoch's moves are within the bound. After a fault
@@ -26,7 +26,6 @@
 mod checkpoint;
 mod epoch;
 mod fault;
-mod from_base;
 mod journal;
 mod law;
 mod left;
@@ -35,7 +34,6 @@ mod receipt;
 mod recorder;
 mod settle_fault;
 mod settling;
-mod start_fault;
 
 pub use epoch::Epoch;
 pub use fault::{NoEntry, RecordFault};
@@ -47,4 +45,3 @@ pub use receipt::{Answer, Receipt, Receipts};
 pub use recorder::Recorder;
 pub use settle_fault::{SettleFault, Unsettled};
 pub use settling::{own_numbers_never_clash, settle_journal, settling_is_exact};
-pub use start_fault::StartFault;

@@ -1,7 +1,6 @@
 //! A network whose entries are numbered.
 
-ghost use Rattle.std.specs.Prelude.{◌≡◌, ◌<◌, ◌≤◌, ◌+◌, ◌++◌, ◌↔◌, min, IfOk, IfErr, IfSome, OnOk, OnErr, IsErrOf, IsTrue};
-ghost use Rattle.graph_store.specs.Fault.{nodes_fault, ExplainsGraphFault};
+ghost use Rattle.std.specs.Prelude.{◌≡◌, ◌<◌, ◌≤◌, ◌+◌, ◌++◌, ◌↔◌, IfOk, IfSome, OnOk, OnErr, IsErrOf, IsTrue};
 ghost use Rattle.rule_machine.specs.declared.event.Event.TheVariants.{Step};
 ghost use Rattle.rule_machine.specs.Answer.{Answers};
 ghost use Rattle.rule_machine.specs.Least.{reply_of};
@@ -10,12 +9,11 @@ ghost use Rattle.rule_engine.specs.PreparedEvents.{net_moment};
 ghost use Rattle.line_text.specs.EntryText.{entry_line};
 ghost use Rattle.line_text.specs.EventText.{event_text};
 ghost use Rattle.step_log.specs.declared.fault.RecordFault.TheVariants.{LogFull};
-ghost use Rattle.step_log.specs.Recording.{max_entries, opening_recording_with, resumed_recording, counting_from, entered, entered_line};
+ghost use Rattle.step_log.specs.Recording.{max_entries, resumed_recording, counting_from, entered, entered_line};
 
 use crate::{Answer, MAX_ENTRIES, RecordFault};
 use line_text::{put_entry, put_entry_of_line};
-use rule_engine::{Choice, Event, GraphFault, Net, Reply, Rules, Verdict, Want};
-use std::alloc::Global;
+use rule_engine::{Choice, Event, Net, Reply, Rules, Verdict, Want};
 use std::marker::Model;
 
 /// A network under the rules `R` that numbers its entries up to a limit, hands them out and keeps none.
@@ -42,28 +40,6 @@ impl<R: Rules> Model for Recorder<R> {
 }
 
 impl<R: Rules> Recorder<R> {
-    /// The recorder of a new network of the nodes 1 to `present`, with names up to `nodes`.
-    /// A limit above 16,777,216 entries counts as 16,777,216.
-    /// `TooManyNodes` above 65,535 names; `Memory` if memory runs out.
-    pub fn with_present(
-        alloc: Global,
-        nodes: u32,
-        present: u32,
-        limit: u32,
-    ) -> Result<Recorder<R>, GraphFault>
-        requires within { present ≤ nodes }
-        ensures ok { IfOk result (λ recorder. recorder ≡ opening_recording_with nodes present (min limit max_entries)) }
-        ensures small { OnOk result (nodes ≤ 65535) }
-        ensures fault { IfErr result (λ fault. ExplainsGraphFault (nodes_fault nodes) fault) }
-    {
-        Ok(Recorder {
-            net: Net::with_present(alloc, nodes, present)?,
-            len: 0,
-            limit: limit.min(MAX_ENTRIES),
-            present,
-        })
-    }
-
     /// A recorder that goes on with a network after `number` entries. It counts rounds if the network does.
     ///
     /// The limit counts all entries. A limit above 16,777,216 counts as 16,777,216, and a limit below
