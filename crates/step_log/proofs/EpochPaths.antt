@@ -1,5 +1,5 @@
 -- The epochs that a journal keeps after one more entry are those of every path.
-use Rattle.step_log.proofs.Prelude.{◌≡◌, ◌≢◌, ℕ, ◌+◌, ◌*◌, ◌≤◌, List, [], ◌∷◌, ◌++◌, length, map, All, append_assoc, refl, sym, ap, ap₂, ◌∙◌, subst, arith, append-nil, get_or-map, map-append, length-map, EpochStart, Event, Reply, Accepted, Refused, Moves, Shown, EnabledAre, Pairs, Counts, node_count, edge_count, State, RuleTable, Answers, spent_after, Entry, Moment, epochs_by, epochs_from, open_at, IsTable, begins_in_state, begins_once, begins_within, charge_bound, IsCharged, Effect, rests, steps, disturbs, effect, step_network, IsPath, epochs_are_bounded, Epoch, begun_at, dropped, AreEpochs, IsEpochWithinBound, IsEpochPath, begun_by, ended_by, epochs_along, of_run, open_in, over_in, path_end, IsJournal, RetainedLog, Begins, moment_in}
+use Rattle.step_log.proofs.Prelude.{◌≡◌, ◌≢◌, ℕ, ◌+◌, ◌*◌, ◌≤◌, List, [], ◌∷◌, ◌++◌, length, map, All, append_assoc, refl, sym, ap, ap₂, ◌∙◌, subst, arith, append-nil, get_or-map, map-append, length-map, EpochStart, Event, Reply, Accepted, Moves, node_count, edge_count, State, RuleTable, Answers, spent_after, Entry, Moment, epochs_by, epochs_from, open_at, IsTable, begins_in_state, begins_once, begins_within, charge_bound, IsCharged, Effect, rests, steps, disturbs, effect, step_network, IsPath, epochs_are_bounded, Epoch, begun_at, dropped, AreEpochs, IsEpochWithinBound, IsEpochPath, begun_by, ended_by, epochs_along, of_run, open_in, over_in, path_end, IsJournal, RetainedLog, Begins, moment_in}
 use Rattle.rule_machine.specs.Run.{Epoch as EpochOf}
 use Rattle.step_log.proofs.Once.{path_once}
 
@@ -49,12 +49,7 @@ stays t s n event reply s' answers calm = by_effect (effect t s n event reply s'
 
 ends : (reply : Reply) (number : ℕ) (s : State) (e : EpochOf) → (epochs_by reply number s e).0 ≡ ended_by reply e
 ends Accepted number s e = refl
-ends (Moves moves) number s e = refl
-ends (Refused refusal) number s e = refl
-ends (Shown target) number s e = refl
-ends (EnabledAre nodes) number s e = refl
-ends (Pairs pairs) number s e = refl
-ends (Counts counts) number s e = refl
+ends other number s e = refl
 
 same_size : (start : EpochStart) (spent : ℕ) (s s' : State) → s'.network ≡ s.network → record { start = start; moves = spent; edges = edge_count s.network; nodes = node_count s.network } ≡ open_at start (record { state = s'; spent = spent })
 same_size start spent s s' same =
@@ -63,11 +58,7 @@ same_size start spent s s' same =
 continues : (reply : Reply) (number : ℕ) (begun : EpochStart) (m : Moment) (s' : State) → (reply ≢ Accepted → s'.network ≡ m.state.network) → (epochs_by reply number s' (open_at begun m)).1 ≡ open_at (begun_by reply number begun) (record { state = s'; spent = spent_after m.spent reply })
 continues Accepted number begun m s' calm = refl
 continues (Moves moves) number begun m s' calm = same_size begun (m.spent + length moves) m.state s' (calm (λ e. cc))
-continues (Refused refusal) number begun m s' calm = same_size begun m.spent m.state s' (calm (λ e. cc))
-continues (Shown target) number begun m s' calm = same_size begun m.spent m.state s' (calm (λ e. cc))
-continues (EnabledAre nodes) number begun m s' calm = same_size begun m.spent m.state s' (calm (λ e. cc))
-continues (Pairs pairs) number begun m s' calm = same_size begun m.spent m.state s' (calm (λ e. cc))
-continues (Counts counts) number begun m s' calm = same_size begun m.spent m.state s' (calm (λ e. cc))
+continues other number begun m s' calm = same_size begun m.spent m.state s' (calm (λ e. cc))
 
 -- one entry more
 pub told_add : (t : RuleTable) (n : ℕ) (began : EpochStart) (start m : Moment) (log : List Entry) (over : List EpochOf) (begun : EpochStart) → IsEpochPath t n began start log m over begun → (entry : Entry) (s : State) → Answers t m.state m.spent entry.0 entry.1 s → IsEpochPath t n began start (log ++ entry ∷ []) (record { state = s; spent = spent_after m.spent entry.1 }) (over ++ ended_by entry.1 (open_at begun m)) (begun_by entry.1 (n + length log) begun)

@@ -1,5 +1,6 @@
 -- The rounds of a journal's epochs: after one more entry, and when counting begins.
-use Rattle.step_log.proofs.Prelude.{◌≡◌, ◌≢◌, ◌∙◌, ◌⊎◌, inl, inr, ℕ, ◌+◌, ◌<◌, List, [], ◌∷◌, ◌++◌, length, drop, get_or, append_assoc, None, none-some, Option, Some, IfSome, All, All-push, All-weaker, refl, sym, ap, ap₂, subst, arith, length-append, append-nil, Event, Reply, Accepted, Refused, Moves, Shown, EnabledAre, Pairs, Counts, State, RuleTable, Entry, Moment, dropped, IsUndisturbed, begun_by, Epoch, EpochStart, RoundCount, count_of_log, counted_whole, next_count, next_counting, rounds_in, rounds_of, over_after, RetainedLog, LeadsTo, last_number}
+use Rattle.step_log.proofs.Prelude.{◌≡◌, ◌≢◌, ◌∙◌, ◌⊎◌, inl, inr, ℕ, ◌+◌, ◌<◌, List, [], ◌∷◌, ◌++◌, length, take, drop, get_or, append_assoc, None, none-some, Option, Some, IfSome, All, All-push, All-weaker, refl, sym, ap, ap₂, subst, arith, length-append, append-nil, Event, Reply, Accepted, State, RuleTable, Entry, Moment, dropped, IsUndisturbed, begun_by, Epoch, EpochStart, RoundCount, count_of_log, counted_whole, next_count, next_counting, rounds_in, rounds_of, over_after, RetainedLog, LeadsTo, last_number}
+use Rattle.std.proofs.lemmas.List.{drop_at, take_at}
 use Rattle.std.proofs.lemmas.List.Elements.{All-head, All-nil, All-tail}
 use Rattle.step_log.specs.JournalRounds.{AreEpochRounds, BeginsAfter, CountsAfter, CountsKept, EndsEpoch, EpochEntries, HasItsRounds, HasRoundsByNumber, IsCountedJournal, IsOver}
 
@@ -101,57 +102,39 @@ all_over_here t weight kept from counting counted number count over last now all
 -- an accepted disturbance ends the current epoch, and no other reply does
 ends_or_not : (reply : Reply) → (reply ≡ Accepted) ⊎ ((reply ≢ Accepted) × ((e : Epoch) (over : List Epoch) → over_after reply e over ≡ over) × ((number : ℕ) (begun : EpochStart) → begun_by reply number begun ≡ begun))
 ends_or_not Accepted = inl refl
-ends_or_not (Moves x) = inr (λ is. cc, λ e over. refl, λ number begun. refl)
-ends_or_not (Refused x) = inr (λ is. cc, λ e over. refl, λ number begun. refl)
-ends_or_not (Shown x) = inr (λ is. cc, λ e over. refl, λ number begun. refl)
-ends_or_not (EnabledAre x) = inr (λ is. cc, λ e over. refl, λ number begun. refl)
-ends_or_not (Pairs x) = inr (λ is. cc, λ e over. refl, λ number begun. refl)
-ends_or_not (Counts x) = inr (λ is. cc, λ e over. refl, λ number begun. refl)
+ends_or_not other = inr (λ is. cc, λ e over. refl, λ number begun. refl)
 
-over_next : (t : RuleTable) (weight : ℕ) (kept : RetainedLog) (m : Moment) (entries : List Entry) (event : Event) (reply : Reply) (from : Option ℕ) (counting counted : Option RoundCount) → entries ≡ kept.entries ++ (event, reply) ∷ [] → counted ≡ next_counting t reply m.state counting → ((before : List Entry) (n : Moment) → LeadsTo t weight (grown kept m entries) before n → LeadsTo t weight kept before n)
-    → (e : Epoch) → IsOver t weight kept from counting e → IsOver t weight (grown kept m entries) from counted e
-over_next t weight kept m entries event reply from counting counted added counts earlier e is =
-    let part = is.rounds.entries in
+-- the rounds of an epoch, with one entry more after its own
+rounds_next : (t : RuleTable) (weight : ℕ) (kept : RetainedLog) (m : Moment) (entries : List Entry) (event : Event) (reply : Reply) (from : Option ℕ) (counting counted : Option RoundCount) → entries ≡ kept.entries ++ (event, reply) ∷ [] → counted ≡ next_counting t reply m.state counting → ((before : List Entry) (n : Moment) → LeadsTo t weight (grown kept m entries) before n → LeadsTo t weight kept before n)
+    → (after : List Entry) (e : Epoch) → HasItsRounds t weight kept from counting after e → HasItsRounds t weight (grown kept m entries) from counted (after ++ (event, reply) ∷ []) e
+rounds_next t weight kept m entries event reply from counting counted added counts earlier after e is =
+    let part = is.entries in
     record {
-      event = is.event;
-      later = is.later ++ (event, reply) ∷ [];
-      rounds = record {
-        entries = record {
-          before = part.before;
-          own = part.own;
-          whole = longer part.before part.own ((is.event, Accepted) ∷ is.later) kept.entries (event, reply) part.whole ∙ sym added;
-          begins = part.begins;
-          calm = part.calm;
-        };
-        counted = λ early late n same there begins.
-            subst (λ (o : Option RoundCount). IfSome o (λ count. e.rounds ≡ Some (rounds_in t n.state late))) (sym counts)
-            (fact_stays t reply m.state (e.rounds ≡ Some (rounds_in t n.state late)) counting (is.rounds.counted early late n same (earlier (part.before ++ early) n there) begins));
-        uncounted = λ none. is.rounds.uncounted (uncounted_before t reply m.state counting (sym counts ∙ none));
+      entries = record {
+        before = part.before;
+        own = part.own;
+        whole = longer part.before part.own after kept.entries (event, reply) part.whole ∙ sym added;
+        begins = part.begins;
+        calm = part.calm;
       };
+      counted = λ early late n same there begins.
+          subst (λ (o : Option RoundCount). IfSome o (λ count. e.rounds ≡ Some (rounds_in t n.state late))) (sym counts)
+          (fact_stays t reply m.state (e.rounds ≡ Some (rounds_in t n.state late)) counting (is.counted early late n same (earlier (part.before ++ early) n there) begins));
+      uncounted = λ none. is.uncounted (uncounted_before t reply m.state counting (sym counts ∙ none));
     }
 
--- the current epoch ends
-over_now : (t : RuleTable) (weight : ℕ) (kept : RetainedLog) (m : Moment) (entries : List Entry) (event : Event) (reply : Reply) (from : Option ℕ) (counting counted : Option RoundCount) → entries ≡ kept.entries ++ (event, reply) ∷ [] → counted ≡ next_counting t reply m.state counting → ((before : List Entry) (n : Moment) → LeadsTo t weight (grown kept m entries) before n → LeadsTo t weight kept before n)
-    → reply ≡ Accepted → CountsKept t weight kept from counting → (e : Epoch) → EpochEntries kept e.start [] → e.rounds ≡ rounds_of counting → IsOver t weight (grown kept m entries) from counted e
-over_now t weight kept m entries event reply from counting counted added counts earlier accepted are e part rounds = record {
-  event = event;
-  later = [];
-  rounds = record {
-    entries = record {
-      before = part.before;
-      own = part.own;
-      whole = longer part.before part.own [] kept.entries (event, Accepted) part.whole ∙ ap (λ (r : Reply). kept.entries ++ (event, r) ∷ []) (sym accepted) ∙ sym added;
-      begins = part.begins;
-      calm = part.calm;
-    };
-    counted = λ early late n same there begins.
-        subst (λ (o : Option RoundCount). IfSome o (λ count. e.rounds ≡ Some (rounds_in t n.state late))) (sym counts)
-        (fact_stays t reply m.state (e.rounds ≡ Some (rounds_in t n.state late)) counting
-        (subst (λ (told : Option ℕ). IfSome counting (λ count. told ≡ Some (rounds_in t n.state late))) (sym rounds)
-        (current_counted t weight kept from counting are e.start part early late n same (earlier (part.before ++ early) n there) begins)));
-    uncounted = λ none. rounds ∙ ap rounds_of (uncounted_before t reply m.state counting (sym counts ∙ none));
-  };
+-- the rounds of the current epoch
+current_rounds : (t : RuleTable) (weight : ℕ) (kept : RetainedLog) (over : List Epoch) (begun : EpochStart) (from : Option ℕ) (counting : Option RoundCount) → IsCountedJournal t weight kept over begun from counting → (e : Epoch) → e.start ≡ begun → e.rounds ≡ rounds_of counting → HasItsRounds t weight kept from counting [] e
+current_rounds t weight kept over begun from counting is e start rounds = record {
+  entries = part;
+  counted = λ early late m same there begins.
+      subst (λ (told : Option ℕ). IfSome counting (λ count. told ≡ Some (rounds_in t m.state late))) (sym rounds)
+      (current_counted t weight kept from counting is.counts e.start part early late m same there begins);
+  uncounted = λ none. rounds ∙ ap rounds_of none;
 }
+  where
+    part : EpochEntries kept e.start []
+    part = subst (λ (s : EpochStart). EpochEntries kept s []) (sym start) is.current
 
 -- the epochs that are over after one more entry
 pub ended_next : (t : RuleTable) (weight : ℕ) (kept : RetainedLog) (m : Moment) (entries : List Entry) (event : Event) (reply : Reply) (from : Option ℕ) (counting counted : Option RoundCount) → entries ≡ kept.entries ++ (event, reply) ∷ [] → counted ≡ next_counting t reply m.state counting → ((before : List Entry) (n : Moment) → LeadsTo t weight (grown kept m entries) before n → LeadsTo t weight kept before n)
@@ -162,14 +145,17 @@ ended_next t weight kept m entries event reply from counting counted added count
     Over : Epoch → Type 0
     Over = IsOver t weight (grown kept m entries) from counted
 
+    next : (after : List Entry) (e : Epoch) → HasItsRounds t weight kept from counting after e → HasItsRounds t weight (grown kept m entries) from counted (after ++ (event, reply) ∷ []) e
+    next = rounds_next t weight kept m entries event reply from counting counted added counts earlier
+
     all : All Over over
-    all = All-weaker (IsOver t weight kept from counting) Over (over_next t weight kept m entries event reply from counting counted added counts earlier) over is.ended
+    all = All-weaker (IsOver t weight kept from counting) Over (λ x o. record { event = o.event; later = o.later ++ (event, reply) ∷ []; rounds = next ((o.event, Accepted) ∷ o.later) x o.rounds }) over is.ended
 
     cases : (reply ≡ Accepted) ⊎ ((reply ≢ Accepted) × ((e : Epoch) (over : List Epoch) → over_after reply e over ≡ over) × ((number : ℕ) (begun : EpochStart) → begun_by reply number begun ≡ begun)) → All Over (over_after reply e over)
     cases (inl accepted) =
+        let own = next [] e (current_rounds t weight kept over begun from counting is e start rounds) in
         subst (λ (r : Reply). All Over (over_after r e over)) (sym accepted)
-        (All-push Over over e all
-        (over_now t weight kept m entries event reply from counting counted added counts earlier accepted is.counts e (subst (λ (s : EpochStart). EpochEntries kept s []) (sym start) is.current) rounds))
+        (All-push Over over e all (record { event = event; later = []; rounds = subst (λ (r : Reply). HasItsRounds t weight (grown kept m entries) from counted ((event, r) ∷ []) e) accepted own }))
     cases (inr (calm, same, stays)) = subst (λ (l : List Epoch). All Over l) (sym (same e over)) all
 
 -- the current epoch after one more entry
@@ -201,33 +187,10 @@ current_next kept m entries event reply begun next_begun added starts is =
 -- ---- all of them
 
 pub rounds_of_epochs : (t : RuleTable) (weight : ℕ) (kept : RetainedLog) (over : List Epoch) (begun : EpochStart) (from : Option ℕ) (counting : Option RoundCount) → IsCountedJournal t weight kept over begun from counting → (e : Epoch) → e.start ≡ begun → e.rounds ≡ rounds_of counting → (epochs : List Epoch) → epochs ≡ over ++ e ∷ [] → AreEpochRounds t weight kept from counting epochs
-rounds_of_epochs t weight kept over begun from counting is e start rounds epochs are = record {
-  over = over;
-  current = e;
-  are = are;
-  ended = is.ended;
-  rounds = record {
-    entries = part;
-    counted = λ early late m same there begins.
-        subst (λ (told : Option ℕ). IfSome counting (λ count. told ≡ Some (rounds_in t m.state late))) (sym rounds)
-        (current_counted t weight kept from counting is.counts e.start part early late m same there begins);
-    uncounted = λ none. rounds ∙ ap rounds_of none;
-  };
-  now = rounds;
-}
-  where
-    part : EpochEntries kept e.start []
-    part = subst (λ (s : EpochStart). EpochEntries kept s []) (sym start) is.current
+rounds_of_epochs t weight kept over begun from counting is e start rounds epochs are =
+    record { over = over; current = e; are = are; ended = is.ended; rounds = current_rounds t weight kept over begun from counting is e start rounds; now = rounds }
 
 -- ---- by number
-
-same_parts : (xs ys us vs : List Entry) → length xs ≡ length us → xs ++ ys ≡ us ++ vs → (xs ≡ us) × (ys ≡ vs)
-same_parts [] ys [] vs n same = (refl, same)
-same_parts [] ys (u ∷ us) vs n same = absurd (omega (arith, n))
-same_parts (x ∷ xs) ys [] vs n same = absurd (omega (arith, n))
-same_parts (x ∷ xs) ys (u ∷ us) vs n same =
-    let rest = same_parts xs ys us vs (omega (arith, n)) (ap (drop 1) same) in
-    (ap₂ (λ (e : Entry) (l : List Entry). e ∷ l) (ap (λ l. get_or l 0 x) same) rest.0, rest.1)
 
 -- the entries up to the first accepted disturbance are the same however they are cut off
 same_own : (own after other rest : List Entry) → own ++ after ≡ other ++ rest → IsUndisturbed own → IsUndisturbed other → EndsEpoch after → EndsEpoch rest → own ≡ other
@@ -250,14 +213,20 @@ by_number t weight kept from counting later ends e is before own after m same st
     number : dropped kept.base + length before ≡ dropped kept.base + length part.before
     number = subst (BeginsAfter (dropped kept.base) part.before) starts part.begins
 
-    cut : (part.before ≡ before) × (part.own ++ later ≡ own ++ after)
-    cut = same_parts part.before (part.own ++ later) before (own ++ after) (omega (arith, number)) (part.whole ∙ sym same)
+    long : length part.before ≡ length before
+    long = omega (arith, number)
+
+    first : part.before ≡ before
+    first = sym (take_at part.before (part.own ++ later) (length before) long) ∙ ap (take (length before)) (part.whole ∙ sym same) ∙ take_at before (own ++ after) (length before) refl
+
+    rest : part.own ++ later ≡ own ++ after
+    rest = sym (drop_at part.before (part.own ++ later) (length before) long) ∙ ap (drop (length before)) (part.whole ∙ sym same) ∙ drop_at before (own ++ after) (length before) refl
 
     same_entries : part.own ≡ own
-    same_entries = same_own part.own later own after cut.1 part.calm calm ends over
+    same_entries = same_own part.own later own after rest part.calm calm ends over
 
     here : before ≡ part.before ++ []
-    here = sym cut.0 ∙ sym (append-nil part.before)
+    here = sym first ∙ sym (append-nil part.before)
 
 pub all_by_number : (t : RuleTable) (weight : ℕ) (kept : RetainedLog) (from : Option ℕ) (counting : Option RoundCount) (epochs : List Epoch) → AreEpochRounds t weight kept from counting epochs → All (HasRoundsByNumber t weight kept from counting) epochs
 all_by_number t weight kept from counting epochs is =

@@ -29,7 +29,6 @@ pub use Rattle.machine_laws.proofs.LeastMoves.{IsTable}
 pub use Rattle.machine_laws.proofs.MaximalMatchings.{maximal_from_stable, stable_from_maximal}
 pub use Rattle.machine_laws.proofs.Runs.{runs_end_in_states, run_add}
 pub use Rattle.machine_laws.proofs.Sizes.{runs_keep_size}
-pub use Rattle.machine_laws.proofs.UnusedFlags.{IsFlagless}
 pub use Rattle.machine_laws.specs.StatesAfterReplies.{followed}
 pub use Rattle.round_laws.proofs.Counting.{answer_followed}
 pub use Rattle.round_laws.proofs.RoundCounts.{counted_whole}
@@ -52,23 +51,21 @@ pub use Rattle.rule_machine.specs.declared.act.Act.TheVariants.{Update, Marry, S
 pub use Rattle.rule_machine.specs.declared.act.Moved.{Moved}
 pub use Rattle.rule_machine.specs.declared.base.Base.{Base}
 pub use Rattle.rule_machine.specs.declared.base.EpochStart.{EpochStart}
-pub use Rattle.rule_machine.specs.declared.base.EpochStart.TheVariants.{At, Forgotten}
 pub use Rattle.rule_machine.specs.declared.choice.Item.{Item}
 pub use Rattle.rule_machine.specs.declared.event.Event.{Event}
-pub use Rattle.rule_machine.specs.declared.event.Event.TheVariants.{Link, Unlink, Point, Flag, Step, Show, Enabled, Matching, Status, Join, Leave}
+pub use Rattle.rule_machine.specs.declared.event.Event.TheVariants.{Step, Enabled, Matching, Status}
 pub use Rattle.rule_machine.specs.declared.refusal.Refusal.{Refusal}
 pub use Rattle.rule_machine.specs.declared.reply.Reply.{Reply}
-pub use Rattle.rule_machine.specs.declared.reply.Reply.TheVariants.{Accepted, Refused, Moves, Shown, EnabledAre, Pairs, Counts}
+pub use Rattle.rule_machine.specs.declared.reply.Reply.TheVariants.{Accepted, Refused, Moves}
 pub use Rattle.step_log.specs.Epochs.{AreEpochs, IsEpochWithinBound, IsEpochPath, begun_by, ended_by, epoch_now, epochs_along, of_run, open_in, over_after, over_in, path_end}
 pub use Rattle.step_log.specs.Headline.{Upholds, LeadsTo}
 pub use Rattle.step_log.specs.JournalViews.{IsJournal, JournalView, kept_of, IsNextReceipt}
-pub use Rattle.step_log.specs.Log.{empty_log_with, max_entries}
+pub use Rattle.step_log.specs.Log.{max_entries}
 pub use Rattle.step_log.specs.Recording.{Recording, IsRecording, entered}
-pub use Rattle.step_log.specs.RetainedLogs.{RetainedLog, Begins, moment_in, IsRetainedRun, IsBaseOfGraph, checkpointed, kept_with, last_number, next_entry, whole}
+pub use Rattle.step_log.specs.RetainedLogs.{RetainedLog, Begins, moment_in, IsRetainedRun, IsBaseOfGraph, kept_with, last_number, next_entry}
 pub use Rattle.step_log.specs.declared.epoch.Epoch.{Epoch}
 pub use Rattle.step_log.specs.declared.receipt.Receipt.{Receipt}
 pub use Rattle.step_log.specs.Receipts.{ReceiptsView, RiseAbove, base_from, base_number}
-pub use Rattle.step_log.specs.Settlements.{Agrees, HasReceiptNumber, IsEarlierReceipt, IsEntryAbove, IsFirstStranger, Settlement, StandsAt, Unsettles, entry_count, greatest_base, receipt_count}
-pub use Rattle.step_log.specs.Marks.{AreReceiptMarks, mark_of}
+pub use Rattle.step_log.specs.Settlements.{Agrees, HasReceiptNumber, IsEarlierReceipt, IsEntryAbove, IsFirstStranger, Settlement, StandsAt, Unsettles, entry_count, greatest_base, receipt_count, AreReceiptMarks, mark_of}
 pub use Rattle.step_log.specs.declared.settle_fault.SettleFault.{SettleFault}
 pub use Rattle.step_log.specs.declared.settle_fault.SettleFault.TheVariants.{BaseDiffers, CountDiffers, Stranger}

@@ -21,41 +21,29 @@ same_receipt clerks c p a b one other =
 
 -- what comes before the next place comes before this one, or is there
 before_more : (d q c p : ℕ) → IsEarlierReceipt d q c (p + 1) → IsEarlierReceipt d q c p ⊎ ((d ≡ c) × (q ≡ p))
-before_more d q c p before =
-    ⊎_elim
-    (λ (h : d < c). inl (inl h))
-    (λ (h : (d ≡ c) × (q < p + 1)).
-    ⊎_elim
-    (λ (below : q < p). inl (inr (h.0, below)))
-    (λ (above : p ≤ q). let e : q ≡ p = omega (arith, h.1) in inr (h.0, e))
-    (cases_lt q p))
-    before
+before_more d q c p (inl h) = inl (inl h)
+before_more d q c p (inr (e, less)) =
+    ⊎_elim (λ (below : q < p). inl (inr (e, below))) (λ (above : p ≤ q). let same : q ≡ p = omega (arith, less) in inr (e, same)) (cases_lt q p)
 
 before_less : (d q c p : ℕ) → IsEarlierReceipt d q c p → IsEarlierReceipt d q c (p + 1)
-before_less d q c p before =
-    ⊎_elim (λ (h : d < c). inl h) (λ (h : (d ≡ c) × (q < p)). let below : q < p + 1 = omega (arith, h.1) in inr (h.0, below)) before
+before_less d q c p (inl h) = inl h
+before_less d q c p (inr (e, less)) = let below : q < p + 1 = omega (arith, less) in inr (e, below)
 
 -- what comes before the next clerk comes before this one's end
 before_next : (clerks : List ReceiptsView) (c : ℕ) (clerk : ReceiptsView) (d q : ℕ) (other : Receipt) → slice_get clerks c ≡ Some clerk → StandsAt clerks d q other → IsEarlierReceipt d q (c + 1) 0 → IsEarlierReceipt d q c (length clerk.receipts)
-before_next clerks c clerk d q other of_clerk stands before =
-    ⊎_elim
-    (λ (h : d < c + 1).
+before_next clerks c clerk d q other of_clerk stands (inl h) =
     ⊎_elim
     (λ (below : d < c). inl below)
     (λ (above : c ≤ d).
     let e : d ≡ c = omega (arith, h) in
     let same : stands.clerk ≡ clerk = same_Some stands.clerk clerk (sym stands.of_clerk ∙ (subst (λ k. slice_get clerks k ≡ Some clerk) (sym e) of_clerk)) in
     inr (e, slice_get_within clerk.receipts q other (subst (λ (k : ReceiptsView). slice_get k.receipts q ≡ Some other) same stands.at_place)))
-    (cases_lt d c))
-    (λ (h : (d ≡ c + 1) × (q < 0)). absurd (omega (arith, h.1)))
-    before
+    (cases_lt d c)
+before_next clerks c clerk d q other of_clerk stands (inr (e, none)) = absurd (omega (arith, none))
 
 before_own : (d q c p : ℕ) → IsEarlierReceipt d q c p → IsEarlierReceipt d q (c + 1) 0
-before_own d q c p before =
-    ⊎_elim
-    (λ (h : d < c). let below : d < c + 1 = omega (arith, h) in inl below)
-    (λ (h : (d ≡ c) × (q < p)). let below : d < c + 1 = omega (arith, h.0) in inl below)
-    before
+before_own d q c p (inl h) = let below : d < c + 1 = omega (arith, h) in inl below
+before_own d q c p (inr (e, less)) = let below : d < c + 1 = omega (arith, e) in inl below
 
 -- ---- the table
 

@@ -1,5 +1,5 @@
 -- What the machine answers is of the event's kind.
-use Rattle.step_log.proofs.Prelude.{◌≡◌, ◌≢◌, ℕ, ◌+◌, ◌≤◌, true, cond, ◌&&◌, List, [], ◌∷◌, length, filter_map, Any, Option, None, Some, is_some, is_none, get_or, nat_le, option_and_then, refl, sym, ap, ◌∙◌, arith, le-leb, list_all, cons_option, range_with_len, option_map, length-range_with_len, list_all-from_AllPass, length-filter, count_by-le-length, none-some, Act, Update, Marry, Seduce, Abandon, Item, Moved, Event, Link, Unlink, Point, Flag, Step, Show, Enabled, Matching, Status, Join, Leave, Refusal, Refused, Network, names, node_count, present, State, IsState, partner, RuleTable, enabled, rule_at, IsTarget, IsMoveOf, IsStep, mutual_pairs, pair_above, refusal_of, Does, AnswersBy, outcome_of, move_in, item_of, least_moves, accepted_reply, reply_by, reply_of, state_after, IsTable, least_answers, takes_target, is_move, are_moves, fits}
+use Rattle.step_log.proofs.Prelude.{◌≡◌, ◌≢◌, ℕ, ◌+◌, ◌≤◌, true, cond, ◌&&◌, List, [], ◌∷◌, length, filter_map, Any, Option, None, Some, is_some, is_none, get_or, nat_le, option_and_then, refl, sym, ap, ◌∙◌, arith, le-leb, list_all, cons_option, range_with_len, option_map, length-range_with_len, list_all-from_AllPass, length-filter, count_by-le-length, none-some, Act, Update, Marry, Seduce, Abandon, Item, Moved, Event, Step, Enabled, Matching, Status, Refusal, Refused, Network, names, node_count, present, State, IsState, partner, RuleTable, enabled, rule_at, IsTarget, IsMoveOf, IsStep, mutual_pairs, pair_above, refusal_of, Does, AnswersBy, outcome_of, move_in, item_of, least_moves, accepted_reply, reply_by, reply_of, state_after, IsTable, least_answers, takes_target, is_move, are_moves, fits}
 
 -- ---- the moves of a step
 
@@ -21,14 +21,11 @@ names_few : {Y : Type 0} (s : State) (h : ℕ → Option Y) → length (filter_m
 names_few s h = filter_map_few h (names s.network)
 
 target_fits : (t : RuleTable) (s : State) (v : ℕ) (act : Act) (wish target : Option ℕ) → IsTarget t s v act wish target → cond (takes_target act) (is_some target) (is_none target) ≡ true
-target_fits t s v Update wish None is = refl
 target_fits t s v Update wish (Some w) is = absurd (none-some w (sym is))
 target_fits t s v Marry wish None is = absurd is.0
-target_fits t s v Marry wish (Some w) is = refl
 target_fits t s v Seduce wish None is = absurd is.0
-target_fits t s v Seduce wish (Some w) is = refl
-target_fits t s v Abandon wish None is = refl
 target_fits t s v Abandon wish (Some w) is = absurd (none-some w (sym is))
+target_fits t s v act wish target is = refl
 
 asked_fits : (t : RuleTable) (s : State) (items : List Item) (m : Moved) → Any (λ item. IsMoveOf t s item m) items → is_move m ≡ true
 asked_fits t s items m (k, item, below, at, is) = target_fits t s item.node m.act item.wish m.target is.target
@@ -46,33 +43,19 @@ step_fits t s items moves s' few step =
 -- ---- all replies
 
 accepted_fits : (t : RuleTable) (s : State) (n : ℕ) (event : Event) (s' : State) → node_count s.network ≤ 65535 → Does t s n event (accepted_reply t s n event) s' → fits event (accepted_reply t s n event) ≡ true
-accepted_fits t s n (Link a b) s' few does = refl
-accepted_fits t s n (Unlink a b) s' few does = refl
-accepted_fits t s n (Point v target) s' few does = refl
-accepted_fits t s n (Flag v value) s' few does = refl
-accepted_fits t s n (Join v) s' few does = refl
-accepted_fits t s n (Leave v) s' few does = refl
 accepted_fits t s n (Step items) s' few does =
     step_fits t s items (least_moves t s items) s' (omega (arith, few, names_few s (λ v. option_and_then (λ item. move_in (outcome_of t s item)) (item_of items v)))) does
-accepted_fits t s n (Show v) s' few does = refl
 accepted_fits t s n Enabled s' few does =
     le-leb (length (enabled t s)) 65535 (omega (arith, few, names_few {Y = ℕ × Act} s (λ v. option_map (λ act. (v, act)) (rule_at t s v))))
 accepted_fits t s n Matching s' few does =
     le-leb (length (mutual_pairs s)) 65535 (omega (arith, few, names_few s (λ v. pair_above v (partner s v))))
-accepted_fits t s n Status s' few does = refl
+accepted_fits t s n other s' few does = refl
 
 refused_fits : (t : RuleTable) (s : State) (event : Event) (refusal : Refusal) → refusal_of t s event ≡ Some refusal → fits event (Refused refusal) ≡ true
-refused_fits t s (Link a b) refusal e = refl
-refused_fits t s (Unlink a b) refusal e = refl
-refused_fits t s (Point v target) refusal e = refl
-refused_fits t s (Flag v value) refusal e = refl
-refused_fits t s (Join v) refusal e = refl
-refused_fits t s (Leave v) refusal e = refl
-refused_fits t s (Step items) refusal e = refl
-refused_fits t s (Show v) refusal e = refl
 refused_fits t s Enabled refusal e = absurd (none-some refusal e)
 refused_fits t s Matching refusal e = absurd (none-some refusal e)
 refused_fits t s Status refusal e = absurd (none-some refusal e)
+refused_fits t s other refusal e = refl
 
 fits_by : (t : RuleTable) (s : State) (n : ℕ) (event : Event) (r : Option Refusal) (s' : State) → refusal_of t s event ≡ r → node_count s.network ≤ 65535 → AnswersBy t s n event r (reply_by t s n event r) s' → fits event (reply_by t s n event r) ≡ true
 fits_by t s n event (Some refusal) s' e few answers = refused_fits t s event refusal e

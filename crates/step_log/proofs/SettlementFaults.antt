@@ -11,10 +11,9 @@ above low (first ∷ receipts) (suc p) receipt rises at = let more = above first
 -- a later receipt has a greater number
 later_is_greater : (low : ℕ) (receipts : List Receipt) (q p : ℕ) (one other : Receipt) → RiseAbove low receipts → slice_get receipts q ≡ Some one → slice_get receipts p ≡ Some other → q < p → one.seq < other.seq
 later_is_greater low [] q p one other rises at_q at_p lt = cc
-later_is_greater low (first ∷ receipts) zero zero one other rises at_q at_p lt = absurd (omega arith)
+later_is_greater low (first ∷ receipts) q zero one other rises at_q at_p lt = absurd (omega arith)
 later_is_greater low (first ∷ receipts) zero (suc p) one other rises at_q at_p lt =
     subst (λ (r : Receipt). r.seq < other.seq) (same_Some first one at_q) (above first.seq receipts p other rises.1 at_p)
-later_is_greater low (first ∷ receipts) (suc q) zero one other rises at_q at_p lt = absurd (omega arith)
 later_is_greater low (first ∷ receipts) (suc q) (suc p) one other rises at_q at_p lt = later_is_greater first.seq receipts q p one other rises.1 at_q at_p (omega arith)
 
 -- two receipts of a clerk whose numbers rise have two numbers

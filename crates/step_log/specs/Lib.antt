@@ -5,7 +5,6 @@ pub mod Epochs
 pub mod JournalViews
 pub mod Receipts
 pub mod Settlements
-pub mod Marks
 pub mod Headline
 pub mod JournalRounds
 pub mod BaseStarts

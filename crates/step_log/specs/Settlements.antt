@@ -7,8 +7,8 @@
 --
 -- `begun` is the number of the base at which the log began; entries are numbered after it. There is none if the
 -- log began at the opening state; then numbers begin at 1.
-use Rattle.std.specs.Prelude.{◌≡◌, ◌≢◌, ℕ, ◌-◌, ◌<◌, ◌≤◌, ◌⊎◌, List, Option, Some, fold, length, slice_get}
-use Rattle.std.specs.List.{sum_by}
+use Rattle.std.specs.Prelude.{◌≡◌, ◌≢◌, ℕ, ◌-◌, ◌<◌, ◌≤◌, ◌⊎◌, List, Option, Some, fold, length, slice_get, ◌+◌, Bool, true, false, take, slice_index_or}
+use Rattle.std.specs.List.{sum_by, count_by}
 use Rattle.rule_machine.specs.Base.{dropped}
 use Rattle.step_log.specs.RetainedLogs.{RetainedLog, last_number}
 use Rattle.step_log.specs.declared.receipt.Receipt.{Receipt}
@@ -92,3 +92,28 @@ Unsettles begun kept clerks BaseDiffers = (receipt_count clerks ≡ entry_count 
 Unsettles begun kept clerks (Stranger clerk place) =
     (receipt_count clerks ≡ entry_count begun kept) × (base_number kept.base ≡ greatest_base begun clerks) × IsFirstStranger begun kept clerks clerk place
 Unsettles begun kept clerks Memory = Unit {0}
+
+-- ---- how receipts are settled, in order: a table has a mark for each entry that an earlier receipt has named
+
+-- a receipt before place p of clerk c has the number n
+pub record IsNumbered (clerks : List ReceiptsView) (c p n : ℕ) : Type 0 where
+  pub clerk : ℕ
+  pub place : ℕ
+  pub receipt : Receipt
+  pub before : IsEarlierReceipt clerk place c p
+  pub stands : StandsAt clerks clerk place receipt
+  pub numbered : receipt.seq ≡ n
+
+-- the mark of the entry with this number
+abbrev pub mark_of : Option ℕ → List Bool → ℕ → Bool
+mark_of begun marks number = slice_index_or marks (number - base_from begun - 1) false
+
+-- All receipts before place p of clerk c agree, the numbers of each clerk before c rise, and exactly these
+-- receipts are marked, each by a mark of its own.
+pub record AreReceiptMarks (begun : Option ℕ) (kept : RetainedLog) (clerks : List ReceiptsView) (c p : ℕ) (marks : List Bool) : Type 0 where
+  pub size : length marks ≡ entry_count begun kept
+  pub agree : (d q : ℕ) (other : Receipt) → IsEarlierReceipt d q c p → StandsAt clerks d q other → Agrees begun kept clerks d q other
+  pub rise : (d : ℕ) (clerk : ReceiptsView) → d < c → slice_get clerks d ≡ Some clerk → RiseAbove 0 clerk.receipts
+  pub marked : (d q : ℕ) (other : Receipt) → IsEarlierReceipt d q c p → StandsAt clerks d q other → mark_of begun marks other.seq ≡ true
+  pub numbered : (k : ℕ) → slice_index_or marks k false ≡ true → IsNumbered clerks c p (base_from begun + k + 1)
+  pub count : count_by (λ mark. mark) marks ≡ sum_by (λ clerk. length clerk.receipts) (take c clerks) + p

@@ -7,9 +7,8 @@ ghost use Rattle.step_log.specs.JournalViews.{kept_of};
 ghost use Rattle.step_log.specs.RetainedLogs.{IsRetainedRun, RetainedLog};
 ghost use Rattle.step_log.specs.declared.settle_fault.SettleFault.{SettleFault};
 ghost use Rattle.step_log.specs.declared.settle_fault.SettleFault.TheVariants.{Stranger, Memory};
-ghost use Rattle.step_log.specs.Receipts.{ReceiptsView, RiseAbove, base_from, base_number};
-ghost use Rattle.step_log.specs.Settlements.{receipt_count, entry_count, greatest_base, StandsAt, HasReceiptNumber, IsEntryAbove, Agrees, Settlement, IsFirstStranger, Unsettles};
-ghost use Rattle.step_log.specs.Marks.{AreReceiptMarks};
+ghost use Rattle.step_log.specs.Receipts.{ReceiptsView, RiseAbove, base_from};
+ghost use Rattle.step_log.specs.Settlements.{receipt_count, entry_count, greatest_base, StandsAt, HasReceiptNumber, IsEntryAbove, Agrees, Settlement, IsFirstStranger, Unsettles, AreReceiptMarks};
 
 use crate::{Journal, NoEntry, Receipt, Receipts, SettleFault, Unsettled};
 use log_entry::{same_event, same_reply};
