@@ -1,5 +1,6 @@
 -- The targets that a node's rule allows.
-use Rattle.machine_laws.proofs.ChargePrelude.{◌≡◌, ℕ, Bool, true, false, cond, not, ◌&&◌, ◌||◌, Option, None, Some, is_some, is_none, IsSome, IsTrue, refl, ap, ◌∙◌, subst, and_parts, Marry, Seduce, Abandon, linked, State, IsState, pointer, suits, has_suitor, rule_at, least_target, is_open, hsu_huang, hsu_huang_opens, near_found, near_fails}
+use Rattle.machine_laws.proofs.ChargePrelude.Imports.{◌≡◌, ℕ, Bool, true, false, cond, not, ◌&&◌, ◌||◌, Option, None, Some, is_some, is_none, IsSome, IsTrue, refl, ap, ◌∙◌, subst, and_parts, Marry, Seduce, Abandon, linked, State, IsState, pointer, suits, has_suitor, rule_at, least_target, is_open, hsu_huang, hsu_huang_opens}
+use Rattle.machine_laws.proofs.ChargePrelude.{near_found, near_fails}
 use Rattle.std.specs.Option.{option_or, option_and_then}
 use Rattle.rule_machine.specs.State.{first_suitor}
 use Rattle.rule_machine.specs.RuleTable.{first_open}

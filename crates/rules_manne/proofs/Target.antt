@@ -1,5 +1,6 @@
 -- The targets that a node's rule allows.
-use Rattle.machine_laws.proofs.ChargePrelude.{◌≡◌, ℕ, Bool, true, false, cond, not, ◌&&◌, ◌||◌, Option, None, Some, is_some, is_none, IsSome, nat_lt, find, IsTrue, refl, sym, ap, ap₂, ◌∙◌, subst, inl, inr, ⊎_elim, ◌⊎◌, and_parts, and_from, cases_Bool, cases_order, ltb-true, not-true, false_from_ne_true, Update, Marry, Seduce, Abandon, linked, neighbours, State, IsState, pointer, flag, is_at, suits, has_suitor, is_settled, rule_at, least_target, manne, may_court, option_cases, near_some, near_found, near_fails, null_unmarried, some_from_is_at, is_at_from_some}
+use Rattle.machine_laws.proofs.ChargePrelude.Imports.{◌≡◌, ℕ, Bool, true, false, cond, not, ◌&&◌, ◌||◌, Option, None, Some, is_some, is_none, IsSome, nat_lt, find, IsTrue, refl, sym, ap, ap₂, ◌∙◌, subst, inl, inr, ⊎_elim, ◌⊎◌, and_parts, and_from, cases_Bool, cases_order, ltb-true, not-true, false_from_ne_true, Update, Marry, Seduce, Abandon, linked, neighbours, State, IsState, pointer, flag, is_at, suits, has_suitor, is_settled, rule_at, least_target, manne, may_court}
+use Rattle.machine_laws.proofs.ChargePrelude.{option_cases, near_some, near_found, near_fails, null_unmarried, some_from_is_at, is_at_from_some}
 use Rattle.std.proofs.Common.{lt-ltb}
 use Rattle.std.specs.Option.{option_or, option_and_then}
 use Rattle.rule_machine.specs.State.{first_suitor}

@@ -1,4 +1,4 @@
-use Rattle.machine_laws.proofs.ChargePrelude.{◌≡◌, ◌&&◌, ◌||◌, true, None, Some, is_none, not, sym, ap, ap₂, ◌∙◌, or_left, or_right, and_from, cond-true, pointer, suits, linked, is_open, hsu_huang, hsu_huang_opens}
+use Rattle.machine_laws.proofs.ChargePrelude.Imports.{◌≡◌, ◌&&◌, ◌||◌, true, None, Some, is_none, not, sym, ap, ap₂, ◌∙◌, or_left, or_right, and_from, cond-true, pointer, suits, linked, is_open, hsu_huang, hsu_huang_opens}
 use Rattle.std.specs.Option.{option_or}
 use Rattle.std.proofs.lemmas.Bool.{false≢true}
 use Rattle.rule_machine.specs.State.{first_suitor}

@@ -1,4 +1,4 @@
-use Rattle.machine_laws.proofs.ChargePrelude.{◌≡◌, true, false, cond, not, None, is_some, sym, ap, ap₂, ◌∙◌, pointer, has_suitor, married, is_settled}
+use Rattle.machine_laws.proofs.ChargePrelude.Imports.{◌≡◌, true, false, cond, not, None, is_some, sym, ap, ap₂, ◌∙◌, pointer, has_suitor, married, is_settled}
 use Rattle.rule_machine.specs.RuleTable.{last_open_above}
 use Rattle.rules_manne.specs.GreatestTarget.{greatest}
 use Rattle.rules_manne.specs.Rule.{null_rule, settled_from_test}

@@ -1,4 +1,4 @@
-use Rattle.machine_laws.proofs.ChargePrelude.{◌≡◌, ◌&&◌, ◌||◌, is_none, true, false, Some, sym, ap, ap₂, ◌∙◌, cond-true, cond-false, is_at, suits, linked, manne}
+use Rattle.machine_laws.proofs.ChargePrelude.Imports.{◌≡◌, ◌&&◌, ◌||◌, is_none, true, false, Some, sym, ap, ap₂, ◌∙◌, cond-true, cond-false, is_at, suits, linked, manne}
 use Rattle.std.specs.Option.{option_or}
 use Rattle.rule_machine.specs.State.{first_suitor}
 use Rattle.rule_machine.specs.RuleTable.{last_open_above}
