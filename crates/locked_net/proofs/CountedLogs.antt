@@ -1,11 +1,12 @@
 -- The count of a network's rounds is that of its whole log since counting began.
 use Rattle.locked_net.proofs.Prelude.{◌≡◌, ◌∙◌, ◌⊎◌, inl, inr, ℕ, ◌+◌, ◌≤◌, List, [], ◌∷◌, ◌++◌, length, Option, None, Some, IfSome, Result, Ok, Err, OnOk, OnErr, refl, sym, ap, ap₂, subst, arith, length-append, append-nil, Event, Reply, reply_of, state_after, RuleTable, Entry, Moment, Run, Base, dropped, IsTable, least_answers, StartsAt, JournalView, kept_of, BoardName, BoardView, Receipt, RetainedLog, checkpointed, kept_with, next_receipt, last_number, moment_in, log_over, IsPublishedJournal, IsWholeLog}
+use Rattle.std.proofs.lemmas.List.{same_from_push}
 use Rattle.machine_laws.proofs.Bases.{base_tells}
 use Rattle.round_laws.proofs.Counting.{answer_followed}
 use Rattle.round_laws.specs.RoundCounts.{RoundCount, count_of_log, first_count, next_counting}
 use Rattle.rule_machine.specs.declared.reply.Reply.TheVariants.{Accepted}
 use Rattle.step_log.proofs.HeadlineProof.{run_goes_on}
-use Rattle.step_log.proofs.KeptRounds.{anew, ends_in, next_of, not_disturbed, run_state, same_last}
+use Rattle.step_log.proofs.KeptRounds.{anew, ends_in, next_of, not_disturbed, run_state}
 use Rattle.step_log.proofs.Once.{run_once}
 use Rattle.step_log.specs.JournalRounds.{CountsAfter, EndsDisturbed}
 use Rattle.step_log.specs.JournalViews.{counting_journal}
@@ -83,9 +84,9 @@ counted_next t table log event from counting counted was is counts next = record
     still (Some number) within = omega (arith, within, more)
 
     disturbed : (from : Option ℕ) → IfSome from (λ number. number ≤ last_number log) → (before : List Entry) → before ≡ log.entries ++ entry ∷ [] → CountsAfter (dropped log.base) from before → reply ≡ Accepted
-    disturbed None within before all ends = ap (λ (e : Entry). e.1) (same_last log.entries ends.before entry (ends.event, Accepted) (sym all ∙ ends.are))
+    disturbed None within before all ends = ap (λ (e : Entry). e.1) ((same_from_push log.entries ends.before entry (ends.event, Accepted) (sym all ∙ ends.are)).1)
     disturbed (Some number) within before all (inl here) = absurd (let n = ap length all in omega (arith, within, here, n, more))
-    disturbed (Some number) within before all (inr (below, ends)) = ap (λ (e : Entry). e.1) (same_last log.entries ends.before entry (ends.event, Accepted) (sym all ∙ ends.are))
+    disturbed (Some number) within before all (inr (below, ends)) = ap (λ (e : Entry). e.1) ((same_from_push log.entries ends.before entry (ends.event, Accepted) (sym all ∙ ends.are)).1)
 
     cases : (start : Moment) → StartsAt t new.state.network.size new.present new.base start → (before after : List Entry) (n : Moment) → before ++ after ≡ new.entries → Run t start before n → CountsAfter (dropped log.base) from before → ((after ≡ []) × (before ≡ log.entries ++ entry ∷ [])) ⊎ ((init : List Entry) × (after ≡ init ++ entry ∷ []) × (before ++ init ≡ log.entries))
         → IfSome (next_counting t reply new.state counting) (λ count. count ≡ count_of_log t n.state after)
