@@ -1,9 +1,9 @@
 -- A text whose run goes on where that of another ends.
-use Rattle.audit_parts.proofs.Prelude.{◌≡◌, ℕ, ◌+◌, List, [], ◌∷◌, ◌++◌, Ok, Err, Option, IfSome, length, arith, refl, sym, ap, subst, ◌∙◌, append_assoc, append-nil, RuleSet, NumberedMoment, LogPart, EntryPart, BasePart, Passes, Base, base_of, entries_in, table_of, lines_with_ends, base_text, Memory, Summary, Counts, IsAccepted, BeginsWithTranscript, BeginsBase, Opening, Based, opening_text, parts_text, size_of, IsTranscript, Chain, Stops, comes_once, nothing_stops, accepted_no_damage, begun, chain_behind, chain_same, comes_no_base, told_comes, followed, run_once, transcript_ends, whole, IsJudged, AreLinesBefore, AcceptedIsContinued, AcceptedIsWhole, ContinuedIsDamaged, EndBasesAreAccepted, EndsAreContinued, ContinuesRun, base_at, end_moment, EndsLine, IsSeam, Meets, Verdict, counted_both, joined_verdict}
+use Rattle.audit_parts.proofs.Prelude.{◌≡◌, ℕ, ◌+◌, List, [], ◌∷◌, ◌++◌, Ok, Err, Option, IfSome, length, arith, refl, sym, ap, subst, ◌∙◌, append_assoc, append-nil, RuleSet, NumberedMoment, LogPart, EntryPart, BasePart, Passes, Base, base_of, entries_in, table_of, lines_with_ends, base_text, Memory, Summary, Counts, IsAccepted, BeginsWithTranscript, BeginsBase, Opening, Based, size_of, IsLogPart, IsTranscript, Chain, Stops, comes_once, nothing_stops, accepted_no_damage, begun, chain_behind, chain_same, comes_no_base, told_comes, followed, run_once, transcript_ends, whole, IsJudged, AreLinesBefore, AcceptedIsContinued, AcceptedIsWhole, ContinuedIsDamaged, EndBasesAreAccepted, EndsAreContinued, ContinuesRun, base_at, end_moment, EndsLine, IsSeam, Meets, Verdict, counted_both, joined_verdict, opening_text, parts_text}
 use Rattle.auditor.proofs.TextEnds.{counted_transcript, summary_of}
 use Rattle.audit_parts.proofs.CutTranscripts.{reopens_end, text_at}
-use Rattle.audit_parts.proofs.Lines.{ends_both, ends_line}
-use Rattle.audit_parts.proofs.MeetingTexts.{all_both, entries_both, parts_text_both, passes_both}
+use Rattle.audit_parts.proofs.Lines.{all_both, ends_both, ends_line}
+use Rattle.audit_parts.proofs.MeetingTexts.{entries_both, parts_text_both, passes_both}
 use Rattle.audit_parts.proofs.PartLaws.{bases_are_seams, joined_is_accepted, joined_judged, parts_are_accepted, second_damage_moves}
 use Rattle.audit_parts.proofs.ShortLines.{accepted_is_short}
 
@@ -47,7 +47,7 @@ with_base bytes rules o log end is =
           ∙ ap (λ (l : List ℕ). l ++ (own ++ [])) is.text
           ∙ append_assoc front first (own ++ [])
           ∙ ap (λ (l : List ℕ). front ++ l) (sym (parts_text_both rules size t is.start end log part is.passes));
-      parts = all_both log part is.parts (tt, tt);
+      parts = all_both IsLogPart log part is.parts (tt, tt);
       not_too_many = is.not_too_many;
       passes = passes_both t is.start end end log part is.passes here;
     }

@@ -1,16 +1,13 @@
 -- The damage of a text is that of a longer one that meets another text; after a transcript it moves on by its
 -- lines.
-use Rattle.audit_parts.proofs.Prelude.{◌≡◌, ◌≢◌, ℕ, ◌+◌, ◌<◌, ◌≤◌, ◌⊎◌, inl, inr, List, [], ◌∷◌, ◌++◌, Option, None, Some, length, refl, sym, ap, subst, ◌∙◌, append_assoc, append-nil, length-append, ⊎_elim, arith, AllByRecursion, cases_lt, Base, RuleSet, LogPart, NumberedMoment, base_of, Entry, Answers, table_of, lines_with_ends, base_head, first_line, first_line-splits, no_first_line, BaseLine, Head, LacksLines, MayFollow, numbers_text, base_lines, IsBaseLine, base_line_text, cons_parts, mark_once, line_free, AuditFault, BadHeader, NotALine, OutOfOrder, NotTheMachines, BadBase, Read, Memory, Summary, IsAccepted, TranscriptPrefix, HasImpossibleBase, HasBrokenBase, EntryComes, BeginsWithTranscript, HasBadHeader, HasBadStart, HasNoEntry, IsDamage, IsLineBehind, CommonPrefix, line_feeds, Based, Opening, opening_text, parts_text, size_of, IsTranscript, Fails, FailsBehind, FailsFirst, Split, damage_fails, fails_some, first_good, split_of, begins_less, begins_more, breaks_more, feeds_append, feeds_broken, first_line-more, EndsLine, IsSeam, further}
+use Rattle.audit_parts.proofs.Prelude.{◌≡◌, ◌≢◌, ℕ, ◌+◌, ◌<◌, ◌≤◌, ◌⊎◌, inl, inr, List, [], ◌∷◌, ◌++◌, Option, None, Some, length, refl, sym, ap, subst, ◌∙◌, append_assoc, append-nil, length-append, ⊎_elim, arith, AllByRecursion, cases_lt, Base, RuleSet, LogPart, NumberedMoment, base_of, Entry, Answers, table_of, lines_with_ends, base_head, first_line, first_line-splits, no_first_line, BaseLine, Head, LacksLines, MayFollow, numbers_text, base_lines, IsBaseLine, base_line_text, cons_parts, mark_once, line_free, AuditFault, BadHeader, NotALine, OutOfOrder, NotTheMachines, BadBase, Summary, IsAccepted, TranscriptPrefix, HasImpossibleBase, HasBrokenBase, EntryComes, BeginsWithTranscript, HasBadHeader, HasBadStart, HasNoEntry, IsDamage, IsLineBehind, CommonPrefix, line_feeds, Based, Opening, opening_text, parts_text, size_of, IsTranscript, Fails, FailsBehind, FailsFirst, Split, damage_fails, fails_some, first_good, split_of, begins_less, begins_more, breaks_more, feeds_append, feeds_broken, first_line-more, EndsLine, IsSeam, further}
 use Rattle.entry_grammar.specs.declared.base_line.BaseLine.TheVariants.{Base as Numbers}
 use Rattle.audit_parts.proofs.CutTranscripts.{cut_reopens, cut_transcript, reopens_end, text_at}
-use Rattle.audit_parts.proofs.Lines.{ends_behind, ends_both, ends_free, follow_inner, skip_base, skip_line, skip_lines}
+use Rattle.audit_parts.proofs.Lines.{ends_behind, ends_both, ends_free, follow_inner, no_empty, skip_base, skip_line, skip_lines}
 use Rattle.audit_parts.proofs.MeetingTexts.{join_follows, seam_other, seam_transcript}
 use Rattle.audit_parts.proofs.SeamRuns.{ended_lines, no_feeds, seam_behind, seam_ends, seam_first}
 
 behind_damage : (bytes : List ℕ) (at : TranscriptPrefix bytes) (d : AuditFault) → Fails (split_of bytes at) d → IsDamage bytes d
-behind_damage bytes at BadHeader x = absurd x
-behind_damage bytes at Read x = absurd x
-behind_damage bytes at Memory x = absurd x
 behind_damage bytes at (NotALine line) x = record { at = at; line_is = x.0; other = x.1; damage = x.2 }
 behind_damage bytes at (OutOfOrder line) (line_is, (number, entry, comes, damage)) =
     record { at = at; line_is = line_is; number = number; entry = entry; comes = comes; damage = damage }
@@ -18,18 +15,15 @@ behind_damage bytes at (NotTheMachines line) (line_is, (entry, comes, damage)) =
     record { at = at; line_is = line_is; entry = entry; comes = comes; damage = damage }
 behind_damage bytes at (BadBase line) (begins, (parting, line_is)) =
     inr (record { at = at; begins = begins; parting = parting; line_is = line_is })
+behind_damage bytes at d x = absurd x
 
 fails_damage : (bytes : List ℕ) (d : AuditFault) → FailsBehind bytes d → IsDamage bytes d
 fails_damage bytes d x = behind_damage bytes x.at d x.fails
 
 first_damage : (bytes : List ℕ) (d : AuditFault) → FailsFirst bytes d → IsDamage bytes d
 first_damage bytes BadHeader x = x
-first_damage bytes (NotALine line) x = absurd x
-first_damage bytes (OutOfOrder line) x = absurd x
-first_damage bytes (NotTheMachines line) x = absurd x
 first_damage bytes (BadBase line) x = inl x
-first_damage bytes Read x = absurd x
-first_damage bytes Memory x = absurd x
+first_damage bytes d x = absurd x
 
 -- ---- whole lines have a first one
 
@@ -40,12 +34,9 @@ some_line x ends some = by (first_line x) refl
     by None cut = absurd (some (ends_free x ends (no_first_line x cut)))
     by (Some (line, behind)) cut = (line, behind, cut)
 
-no_cons : (b : ℕ) (x : List ℕ) → b ∷ x ≡ [] → ⊥
-no_cons b x e = absurd cc
-
 nothing_behind : (x y : List ℕ) → x ++ y ≡ [] → y ≡ []
 nothing_behind [] y e = e
-nothing_behind (b ∷ x) y e = absurd (no_cons b (x ++ y) e)
+nothing_behind (b ∷ x) y e = absurd (no_empty b (x ++ y) e)
 
 -- two ways to cut one text
 apart : (a b x y : List ℕ) → a ++ b ≡ x ++ y → ((g : List ℕ) × (x ≡ a ++ g) × (b ≡ g ++ y)) ⊎ ((g : List ℕ) × (a ≡ x ++ g) × (y ≡ g ++ b))
@@ -66,7 +57,7 @@ module _ (own seam : List ℕ) (lines : EndsLine own) (seamed : IsSeam seam) whe
   text_ends = ends_both own seam lines (seam_ends seam seamed)
 
   seam_some : seam ≢ []
-  seam_some e = let first = seam_first seam seamed in no_cons 109 first.0 (sym first.1 ∙ e)
+  seam_some e = let first = seam_first seam seamed in no_empty 109 first.0 (sym first.1 ∙ e)
 
   text_some : own ++ seam ≢ []
   text_some e = seam_some (nothing_behind own seam e)
@@ -88,27 +79,23 @@ module _ (own seam : List ℕ) (lines : EndsLine own) (seamed : IsSeam seam) whe
       alone : (found : List BaseLine) → AllByRecursion IsBaseLine found → MayFollow found → LacksLines found → base_head rules size ++ 10 ∷ lines_with_ends base_line_text found ≡ seam → ⊥
       alone [] fit follow short e =
           let cut = mark_once 10 (base_head rules size) seamed.head [] (seamed.numbers ++ 10 ∷ seamed.rest) (line_free (Head rules size) few) seamed.first (e ∙ seamed.is) in
-          let l = ap length cut.1 ∙ length-append seamed.numbers (10 ∷ seamed.rest) in
-          omega (arith, l)
+          omega (arith, ap length cut.1 ∙ length-append seamed.numbers (10 ∷ seamed.rest))
       alone (Numbers q ∷ found) fit follow short e =
           let text = numbers_text q in
           let more = lines_with_ends base_line_text found in
           let cut = mark_once 10 (base_head rules size) seamed.head ((text ++ 10 ∷ []) ++ more) (seamed.numbers ++ 10 ∷ seamed.rest) (line_free (Head rules size) few) seamed.first (e ∙ seamed.is) in
           let second = mark_once 10 text seamed.numbers more seamed.rest (line_free (Numbers q) fit.0) seamed.second (sym (append_assoc text (10 ∷ []) more) ∙ cut.1) in
           let told = seamed.told q fit.0 (sym second.0) in
-          let same = ap line_feeds second.1 in
-          let all = (ended_lines base_line_text IsBaseLine line_free found fit.1).0 in
-          omega (arith, told, same, all, short)
+          omega (arith, told, ap line_feeds second.1, (ended_lines base_line_text IsBaseLine line_free found fit.1).0, short)
       alone (line ∷ found) fit follow short e = follow
 
       by : (x : List ℕ) → EndsLine x → base_head rules size ++ 10 ∷ lines_with_ends base_line_text found ≡ x ++ seam → ⊥
       by [] ends e = alone found fit follow short e
       by (b ∷ x) ends e =
-          let skipped = skip_line (base_head rules size) (lines_with_ends base_line_text found) (b ∷ x) seam (line_free (Head rules size) few) ends (no_cons b x) e in
+          let skipped = skip_line (base_head rules size) (lines_with_ends base_line_text found) (b ∷ x) seam (line_free (Head rules size) few) ends (no_empty b x) e in
           let inside = append-nil (lines_with_ends base_line_text found) ∙ skipped.behind ∙ ap (λ (l : List ℕ). skipped.left ++ l) first.1 in
           let gone = skip_lines found fit (follow_inner found follow) [] skipped.left first.0 skipped.lines inside in
-          let l = ap length gone.behind ∙ length-append gone.left (109 ∷ first.0) in
-          omega (arith, l)
+          omega (arith, ap length gone.behind ∙ length-append gone.left (109 ∷ first.0))
 
   start_more : (more : List ℕ) (line : ℕ) → HasBadStart (own ++ seam) line → HasBadStart ((own ++ seam) ++ more) line
   start_more more line bad = record {
@@ -139,12 +126,8 @@ module _ (own seam : List ℕ) (lines : EndsLine own) (seamed : IsSeam seam) whe
 
   first_more : (more : List ℕ) (d : AuditFault) → FailsFirst (own ++ seam) d → FailsFirst ((own ++ seam) ++ more) d
   first_more more BadHeader bad = header_more more bad
-  first_more more (NotALine line) bad = bad
-  first_more more (OutOfOrder line) bad = bad
-  first_more more (NotTheMachines line) bad = bad
   first_more more (BadBase line) bad = start_more more line bad
-  first_more more Read bad = bad
-  first_more more Memory bad = bad
+  first_more more d bad = absurd bad
 
   -- ---- behind a transcript
 
@@ -183,9 +166,8 @@ module _ (own seam : List ℕ) (lines : EndsLine own) (seamed : IsSeam seam) whe
           let begun = reopens_end good rules o log end is in
           let text : text_at rules size end ++ [] ≡ (b ∷ g) ++ 109 ∷ (first.0 ++ missing) =
           append-nil (text_at rules size end) ∙ wanted ∙ ap (λ (l : List ℕ). l ++ missing) e ∙ append_assoc (b ∷ g) seam missing ∙ ap (λ (l : List ℕ). (b ∷ g) ++ (l ++ missing)) first.1 in
-          let skipped = skip_base rules size base begun.fits.few begun.fits.shaped [] (b ∷ g) (first.0 ++ missing) (ends_behind good (b ∷ g) (subst EndsLine here lines)) (no_cons b g) text in
-          let l = ap length skipped.behind ∙ length-append skipped.left (109 ∷ (first.0 ++ missing)) in
-          omega (arith, l)
+          let skipped = skip_base rules size base begun.fits.few begun.fits.shaped [] (b ∷ g) (first.0 ++ missing) (ends_behind good (b ∷ g) (subst EndsLine here lines)) (no_empty b g) text in
+          omega (arith, ap length skipped.behind ∙ length-append skipped.left (109 ∷ (first.0 ++ missing)))
 
       by : ((g : List ℕ) × (good ≡ own ++ g) × (seam ≡ g ++ rest)) ⊎ ((g : List ℕ) × (own ≡ good ++ g) × (rest ≡ g ++ seam)) → ⊥
       by (inl (g, here, e)) = front g here e
@@ -220,9 +202,6 @@ module _ (own seam : List ℕ) (lines : EndsLine own) (seamed : IsSeam seam) whe
   longer at more = record at { rest = at.rest ++ more }
 
   fails_more : (more : List ℕ) (at : Split) (d : AuditFault) → IsTranscript at.good at.rules at.opening at.log at.end → own ++ seam ≡ at.good ++ at.rest → Fails at d → Fails (longer at more) d
-  fails_more more at BadHeader is splits x = x
-  fails_more more at Read is splits x = x
-  fails_more more at Memory is splits x = x
   fails_more more at (NotALine line) is splits x =
       let found = some_line at.rest (rest_ends at.good at.rest splits) (fails_some at (NotALine line) x) in
       let none = subst (HasNoEntry at.rest) found.2 x.2 in
@@ -235,6 +214,7 @@ module _ (own seam : List ℕ) (lines : EndsLine own) (seamed : IsSeam seam) whe
       base_cut at.rules at.opening at.log at.end at.good at.rest p.missing is splits (fails_some at (BadBase line) (begins, (p, line_is))) p.some (p.wanted ∙ ap (λ (l : List ℕ). l ++ p.missing) same) in
       let q = parting_more (text_at at.rules (size_of at.opening) at.end) at.rest more p some in
       (begins_more at.rest more begins, (q.0, subst (λ (c : List ℕ). IsLineBehind line (at.good ++ c)) q.1 line_is))
+  fails_more more at d is splits x = absurd x
 
   behind_more : (more : List ℕ) (d : AuditFault) → FailsBehind (own ++ seam) d → FailsBehind ((own ++ seam) ++ more) d
   behind_more more d x =
@@ -268,9 +248,6 @@ module _ (own seam : List ℕ) (lines : EndsLine own) (seamed : IsSeam seam) whe
   moved at rules o log = record { rules = rules; opening = o; good = own ++ at.good; log = log; end = at.end; rest = at.rest }
 
   fails_further : (at : Split) (rules : RuleSet) (o : Opening) (log : List LogPart) (d : AuditFault) → at.rules ≡ rules → size_of at.opening ≡ size_of o → Fails at d → Fails (moved at rules o log) (further (line_feeds own) d)
-  fails_further at rules o log BadHeader same size x = x
-  fails_further at rules o log Read same size x = x
-  fails_further at rules o log Memory same size x = x
   fails_further at rules o log (NotALine line) same size x = (line_further line at.good x.0, x.1, x.2)
   fails_further at rules o log (OutOfOrder line) same size x = (line_further line at.good x.0, x.1)
   fails_further at rules o log (NotTheMachines line) same size (line_is, (entry, comes, damage)) =
@@ -279,6 +256,7 @@ module _ (own seam : List ℕ) (lines : EndsLine own) (seamed : IsSeam seam) whe
       let text = ap (λ (r : RuleSet). text_at r (size_of at.opening) at.end) same ∙ ap (λ (n : ℕ). text_at rules n at.end) size in
       let q : CommonPrefix (text_at rules (size_of o) at.end) at.rest = record { common = p.common; missing = p.missing; more = p.more; wanted = sym text ∙ p.wanted; had = p.had; some = p.some; apart = p.apart } in
       (begins, (q, subst (IsLineBehind (line_feeds own + line)) (sym (append_assoc own at.good p.common)) (line_further line (at.good ++ p.common) line_is)))
+  fails_further at rules o log d same size x = absurd x
 
   pub second_is_the_wholes : (behind : List ℕ) (c : Summary) (d : AuditFault) → IsAccepted (own ++ seam) c → IsDamage (seam ++ behind) d → IsDamage (own ++ (seam ++ behind)) (further (line_feeds own) d)
   second_is_the_wholes behind c d y x = by (damage_fails (seam ++ behind) d x)

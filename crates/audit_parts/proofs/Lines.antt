@@ -3,6 +3,11 @@ use Rattle.audit_parts.proofs.Prelude.{◌≡◌, ◌≢◌, ℕ, ◌≤◌, zer
 use Rattle.rule_machine.specs.declared.base.Base.{Base as BaseKept}
 use Rattle.entry_grammar.specs.declared.base_line.BaseLine.TheVariants.{Base}
 
+-- what holds of each item of two lists holds of each item of both
+pub all_both : {X : Type 0} (P : X → Type 0) (xs ys : List X) → AllByRecursion P xs → AllByRecursion P ys → AllByRecursion P (xs ++ ys)
+all_both P [] ys f g = g
+all_both P (x ∷ xs) ys f g = (f.0, all_both P xs ys f.1 g)
+
 -- ---- whole lines
 
 pub ends_tail : (b : ℕ) (x : List ℕ) → EndsLine (b ∷ x) → EndsLine x
@@ -25,7 +30,7 @@ ends_both (b ∷ []) [] f g = f
 ends_both (b ∷ []) (c ∷ y) f g = g
 ends_both (b ∷ c ∷ x) y f g = ends_both (c ∷ x) y f g
 
-no_empty : (b : ℕ) (x : List ℕ) → b ∷ x ≡ [] → ⊥
+pub no_empty : (b : ℕ) (x : List ℕ) → b ∷ x ≡ [] → ⊥
 no_empty b x e = absurd cc
 
 -- without a line feed they are none
@@ -82,12 +87,7 @@ IsInner line = Unit {0}
 
 inner_other : (line : BaseLine) (more z : List ℕ) → IsInner line → base_line_text line ++ 10 ∷ more ≡ 109 ∷ z → ⊥
 inner_other (Head rules size) more z inner e = inner
-inner_other (Base q) more z inner e =
-    let byte : 98 ≡ 109 = ap (λ (l : List ℕ). get_or l 0 0) e in omega (arith, byte)
-inner_other (Place node target flagged) more z inner e =
-    let byte : 110 ≡ 109 = ap (λ (l : List ℕ). get_or l 0 0) e in omega (arith, byte)
-inner_other (Link edge) more z inner e =
-    let byte : 101 ≡ 109 = ap (λ (l : List ℕ). get_or l 0 0) e in omega (arith, byte)
+inner_other line more z inner e = omega (arith, ap (λ (l : List ℕ). get_or l 0 0) e)
 
 edges_inner : (left : ℕ) (last : ℕ × ℕ) (lines : List BaseLine) → EdgesFollow left last lines → AllByRecursion IsInner lines
 edges_inner left last [] h = tt
@@ -105,17 +105,13 @@ follow_inner [] h = tt
 follow_inner (Base q ∷ lines) h = (tt, nodes_inner q.nodes q.edges 0 lines h)
 follow_inner (line ∷ lines) h = absurd h
 
-one_line : (line : BaseLine) (lines : List BaseLine) (x : List ℕ) → lines_with_ends base_line_text (line ∷ lines) ++ x ≡ base_line_text line ++ 10 ∷ (lines_with_ends base_line_text lines ++ x)
-one_line line lines x =
-    append_assoc (base_line_text line ++ 10 ∷ []) (lines_with_ends base_line_text lines) x ∙ append_assoc (base_line_text line) (10 ∷ []) (lines_with_ends base_line_text lines ++ x)
-
 -- so what begins as a base comes after them
 pub skip_lines : (lines : List BaseLine) → AllByRecursion IsBaseLine lines → AllByRecursion IsInner lines → (rest x z : List ℕ) → EndsLine x → lines_with_ends base_line_text lines ++ rest ≡ x ++ 109 ∷ z → Skipped (lines_with_ends base_line_text lines) rest x (109 ∷ z)
 skip_lines [] fit inner rest x z ends e = record { left = x; is = refl; lines = ends; behind = e }
 skip_lines (line ∷ lines) fit inner rest x z ends e =
     let text = base_line_text line in
     let more = lines_with_ends base_line_text lines in
-    let first = skip_other text (more ++ rest) x (109 ∷ z) (line_free line fit.0) ends (inner_other line (more ++ rest) z inner.0) (sym (one_line line lines rest) ∙ e) in
+    let first = skip_other text (more ++ rest) x (109 ∷ z) (line_free line fit.0) ends (inner_other line (more ++ rest) z inner.0) (simp append_assoc at e) in
     skip_both (text ++ 10 ∷ []) more rest x (109 ∷ z) first (skip_lines lines fit.1 inner.1 rest first.left z first.lines first.behind)
 
 -- ---- a base

@@ -1,8 +1,9 @@
 -- Two texts that meet, and the joined one.
-use Rattle.audit_parts.proofs.Prelude.{◌≡◌, ℕ, ◌+◌, List, [], ◌∷◌, ◌++◌, get_or, length, refl, sym, ap, subst, ◌∙◌, append_assoc, append-nil, length-append, arith, AllByRecursion, sum_by-append, RuleSet, RuleTable, LogPart, EntryPart, BasePart, NumberedMoment, Passes, base_of, entries_in, Entry, table_of, entry_text, base_text, Summary, Counts, IsAccepted, BeginsWithTranscript, Opening, Based, count_after, opening_text, part_text, parts_text, size_of, IsLogPart, IsTranscript, disturbances_in, epoch_count, move_count, reply_moves, followed, transcript_ends, whole, follows_text, opening_once, parts_behind, passes_first, passes_onto, passes_rise, step_count, EndsLine, IsSeam, counted_both}
+use Rattle.audit_parts.proofs.Prelude.{◌≡◌, ℕ, ◌+◌, List, [], ◌∷◌, ◌++◌, get_or, length, refl, sym, ap, subst, ◌∙◌, append_assoc, append-nil, length-append, arith, AllByRecursion, sum_by-append, RuleSet, RuleTable, LogPart, EntryPart, BasePart, NumberedMoment, Passes, base_of, entries_in, Entry, table_of, entry_text, base_text, Summary, Counts, IsAccepted, BeginsWithTranscript, Opening, Based, opening_text, part_text, parts_text, size_of, IsLogPart, IsTranscript, disturbances_in, reply_moves, followed, transcript_ends, whole, follows_text, opening_once, parts_behind, passes_first, passes_onto, passes_rise, step_count, EndsLine, IsSeam, counted_both}
 use Rattle.auditor.proofs.TextEnds.{counted_transcript, summary_of}
-use Rattle.audit_parts.proofs.CutTranscripts.{IsNoHeader, cut_transcript, reopens_end, text_at}
-use Rattle.audit_parts.proofs.SeamRuns.{reopens, seam_behind, seam_first, seam_is}
+use Rattle.audit_parts.proofs.Lines.{all_both}
+use Rattle.audit_parts.proofs.CutTranscripts.{IsNoHeader, cut_reopens, cut_transcript, reopens_end, text_at}
+use Rattle.audit_parts.proofs.SeamRuns.{seam_behind, seam_first, seam_is}
 
 -- ---- logs, one behind the other
 
@@ -18,14 +19,7 @@ parts_text_both rules size t at middle (part ∷ log) more passes =
     let split = passes_first t at middle part log passes in
     let count = step_count t at split.0 part split.1 in
     let own = part_text rules size at.count part in
-    ap (λ (n : ℕ). own ++ parts_text rules size n (log ++ more)) (sym count)
-    ∙ ap (λ (l : List ℕ). own ++ l) (parts_text_both rules size t split.0 middle log more split.2)
-    ∙ ap (λ (n : ℕ). own ++ (parts_text rules size n log ++ parts_text rules size middle.count more)) count
-    ∙ sym (append_assoc own (parts_text rules size (count_after at.count part) log) (parts_text rules size middle.count more))
-
-pub all_both : (log more : List LogPart) → AllByRecursion IsLogPart log → AllByRecursion IsLogPart more → AllByRecursion IsLogPart (log ++ more)
-all_both [] more f g = g
-all_both (part ∷ log) more f g = (f.0, all_both log more f.1 g)
+    rw (← count, parts_text_both rules size t split.0 middle log more split.2) (simp append_assoc)
 
 pub all_apart : (log more : List LogPart) → AllByRecursion IsLogPart (log ++ more) → AllByRecursion IsLogPart log × AllByRecursion IsLogPart more
 all_apart [] more f = (tt, f)
@@ -40,26 +34,18 @@ pub counts_both : (log more : List LogPart) (c d : Summary) → Counts c (entrie
 counts_both log more c d f g =
     let a = entries_in log in
     let b = entries_in more in
-    let both = entries_both log more in
-    let lengths = ap length both ∙ length-append a b in
-    let epochs = ap epoch_count both in
-    let moves = ap move_count both in
-    let disturbed = sum_by-append (λ (e : Entry). disturbances_in e.1) a b in
-    let moved = sum_by-append (λ (e : Entry). reply_moves e.1) a b in
-    record {
-      entries = omega (arith, lengths, f.entries, g.entries);
-      epochs = omega (arith, epochs, disturbed, f.epochs, g.epochs);
-      moves = omega (arith, moves, moved, f.moves, g.moves);
-    }
+    rw (entries_both log more) (record {
+      entries = omega (arith, length-append a b, f.entries, g.entries);
+      epochs = omega (arith, sum_by-append (λ (e : Entry). disturbances_in e.1) a b, f.epochs, g.epochs);
+      moves = omega (arith, sum_by-append (λ (e : Entry). reply_moves e.1) a b, f.moves, g.moves);
+    })
 
 -- ---- a seam begins as no header does
 
 pub seam_other : (seam front behind : List ℕ) → IsSeam seam → seam ≡ front ++ behind → IsNoHeader front
 seam_other seam front behind is splits rules size count more e =
-    let begins = sym is.is ∙ splits ∙ ap (λ (l : List ℕ). l ++ behind) e in
-    let named = ap (λ (l : List ℕ). l ++ 10 ∷ (is.numbers ++ 10 ∷ is.rest)) (sym is.begins.1) ∙ begins in
-    let byte : 50 ≡ 32 = ap (λ (l : List ℕ). get_or l 8 0) named in
-    omega (arith, byte)
+    let named = ap (λ (l : List ℕ). l ++ 10 ∷ (is.numbers ++ 10 ∷ is.rest)) (sym is.begins.1) ∙ sym is.is ∙ splits ∙ ap (λ (l : List ℕ). l ++ behind) e in
+    omega (arith, ap (λ (l : List ℕ). get_or l 8 0) named)
 
 -- ---- the first text is a transcript
 
@@ -67,14 +53,9 @@ nothing_of : (rules : RuleSet) (size count : ℕ) (log : List LogPart) → parts
 nothing_of rules size count [] e = refl
 nothing_of rules size count (EntryPart entry ∷ log) e =
     let own = entry_text (count + 1) entry.0 entry.1 in
-    let l = ap length e in
-    let both = length-append (own ++ 10 ∷ []) (parts_text rules size (count + 1) log) in
-    let line = length-append own (10 ∷ []) in
-    absurd (omega (arith, l, both, line))
+    absurd (omega (arith, ap length e, length-append (own ++ 10 ∷ []) (parts_text rules size (count + 1) log), length-append own (10 ∷ [])))
 nothing_of rules size count (BasePart base ∷ log) e =
-    let l = ap length e in
-    let both = length-append (base_text rules size base) (parts_text rules size count log) in
-    absurd (omega (arith, l, both))
+    absurd (omega (arith, ap length e, length-append (base_text rules size base) (parts_text rules size count log)))
 
 -- it ends with the base of its end
 pub closes : (own seam : List ℕ) → EndsLine own → IsSeam seam → (rules : RuleSet) (o : Opening) (log : List LogPart) (end : NumberedMoment) → IsTranscript (own ++ seam) rules o log end → seam ≡ text_at rules (size_of o) end
@@ -83,9 +64,7 @@ closes own seam lines seamed rules o log end is =
     let size = size_of o in
     let t = table_of rules in
     let c = cut_transcript (own ++ seam) rules o log end is own seam first.0 lines first.1 (seam_other seam seam [] seamed (sym (append-nil seam))) refl in
-    let rises = passes_rise t c.middle end c.behind c.goes_on in
-    let few = is.not_too_many in
-    let begun = reopens rules o is.start c.middle c.before is.opens c.reached (omega (arith, rises, few)) in
+    let begun = cut_reopens (own ++ seam) rules o log end is (opening_text rules o) own seam c in
     let more = parts_text rules size c.middle.count c.behind in
     let whole : text_at rules size c.middle ++ more ≡ seam ++ [] = sym c.rest_is ∙ sym (append-nil seam) in
     let same = seam_is rules size (base_of c.middle.count c.middle.moment) begun.fits.few begun.fits.shaped seam seamed more [] whole in
@@ -137,7 +116,7 @@ join_follows own seam behind lines seamed rules o log end is r also last left f 
         start = is.start;
         opens = is.opens;
         text = ap (λ (l : List ℕ). own ++ l) text ∙ sym (append_assoc own seam second) ∙ ap (λ (l : List ℕ). l ++ second) is.text ∙ append_assoc front first second ∙ ap (λ (l : List ℕ). front ++ l) (sym (parts_text_both rules size t is.start end log also is.passes));
-        parts = all_both log also is.parts f.transcript.parts;
+        parts = all_both IsLogPart log also is.parts f.transcript.parts;
         not_too_many = f.transcript.not_too_many;
         passes = passes_both t is.start end last log also is.passes goes_on;
       };
@@ -175,7 +154,7 @@ parts_accepted own seam behind lines seamed c x =
     let k = cut_transcript (own ++ (seam ++ behind)) rules o x.log x.end is own (seam ++ behind) (first.0 ++ behind) lines (ap (λ (l : List ℕ). l ++ behind) first.1) no_header refl in
     let rises = passes_rise t k.middle x.end k.behind k.goes_on in
     let few = is.not_too_many in
-    let begun = reopens rules o is.start k.middle k.before is.opens k.reached (omega (arith, rises, few)) in
+    let begun = cut_reopens (own ++ (seam ++ behind)) rules o x.log x.end is (opening_text rules o) own (seam ++ behind) k in
     let base = base_of k.middle.count k.middle.moment in
     let more = parts_text rules size k.middle.count k.behind in
     let same = seam_is rules size base begun.fits.few begun.fits.shaped seam seamed more behind (sym k.rest_is) in

@@ -1,10 +1,9 @@
 -- The laws of specs/Laws.
-use Rattle.audit_parts.proofs.Prelude.{◌≡◌, ℕ, ◌+◌, List, [], ◌∷◌, ◌++◌, Ok, Err, Option, None, Some, IfSome, refl, sym, ap, subst, ◌∙◌, append_assoc, append-nil, arith, lines_with_ends, base_head, base_text, link_text, numbers_line, node_record_text, Head, AreCounts, BaseNumbers, base_numbers, same_numbers, base_lines, spells_base_line_once, line_free, Read, Memory, IsAccepted, IsDamage, line_feeds, IsJudged, AreLinesBefore, AllPartsAreAccepted, AreParts, BasesAreSeams, FirstDamageStays, HasVerdict, IsAcceptedText, JoinedIsAccepted, PartsAreAccepted, PartsAreJudged, SecondDamageMoves, Meets, Verdict, counted_both, further, joined_verdict}
+use Rattle.audit_parts.proofs.Prelude.{◌≡◌, ℕ, ◌+◌, List, [], ◌∷◌, ◌++◌, map, Ok, Err, Option, None, Some, IfSome, refl, sym, ap, subst, ◌∙◌, append_assoc, append-nil, arith, lines_with_ends, base_head, link_text, numbers_line, node_record_text, Head, AreCounts, BaseNumbers, base_numbers, same_numbers, spells_base_line_once, line_free, Read, Memory, line_feeds, IsJudged, AreLinesBefore, AllPartsAreAccepted, AreParts, BasesAreSeams, FirstDamageStays, HasVerdict, IsAcceptedText, JoinedIsAccepted, PartsAreAccepted, PartsAreJudged, SecondDamageMoves, Meets, Verdict, joined_verdict, IsAccepted, IsDamage, further, counted_both}
 use Rattle.entry_grammar.specs.declared.base_line.BaseLine.TheVariants.{Base as Numbers}
 use Rattle.audit_parts.proofs.Damages.{first_is_the_wholes, second_is_the_wholes}
-use Rattle.audit_parts.proofs.Lines.{base_behind}
 use Rattle.audit_parts.proofs.MeetingTexts.{parts_accepted, whole_accepted}
-use Rattle.audit_parts.proofs.SeamRuns.{others_told}
+use Rattle.audit_parts.proofs.SeamRuns.{base_lines_are, others_told}
 
 -- ---- the texts of two that meet
 
@@ -12,16 +11,13 @@ use Rattle.audit_parts.proofs.SeamRuns.{others_told}
 whole_of : (first second : List ℕ) (m : Meets first second) (P : List ℕ → Type 0) → P (m.own ++ (m.seam ++ m.behind)) → P (m.own ++ second)
 whole_of first second m P p = subst (λ (l : List ℕ). P (m.own ++ l)) (sym m.begins) p
 
-of_whole : (first second : List ℕ) (m : Meets first second) (P : List ℕ → Type 0) → P (m.own ++ second) → P (m.own ++ (m.seam ++ m.behind))
-of_whole first second m P p = subst (λ (l : List ℕ). P (m.own ++ l)) m.begins p
-
 pub joined_is_accepted : JoinedIsAccepted
 joined_is_accepted first second m c d x y =
     whole_of first second m (λ l. IsAccepted l (counted_both c d)) (whole_accepted m.own m.seam m.behind m.lines m.is_seam c d (subst (λ (l : List ℕ). IsAccepted l c) m.ends x) (subst (λ (l : List ℕ). IsAccepted l d) m.begins y))
 
 pub parts_are_accepted : PartsAreAccepted
 parts_are_accepted first second m (c, x) =
-    let both = parts_accepted m.own m.seam m.behind m.lines m.is_seam c (of_whole first second m (λ l. IsAccepted l c) x) in
+    let both = parts_accepted m.own m.seam m.behind m.lines m.is_seam c (subst (λ (l : List ℕ). IsAccepted (m.own ++ l) c) m.begins x) in
     ((both.first, subst (λ (l : List ℕ). IsAccepted l both.first) (sym m.ends) both.first_is), (both.second, subst (λ (l : List ℕ). IsAccepted l both.second) (sym m.begins) both.second_is))
 
 pub first_damage_stays : FirstDamageStays
@@ -84,11 +80,9 @@ all_parts_are_accepted first (next ∷ others) whole (m, rest, parts, is) fine =
     let both = parts_are_accepted first rest n.0 (subst IsAcceptedText is fine) in
     (both.0, all_parts_are_accepted next others rest parts both.1)
 
-verdict_begins : (first : List ℕ) (v : Verdict) (others : List (List ℕ × Verdict)) (whole : List ℕ) (all : Verdict) → HasVerdict first v others whole all → (more : List ℕ) × (whole ≡ first ++ more)
-verdict_begins first v [] whole all is = ([], is.0 ∙ sym (append-nil first))
-verdict_begins first v (next ∷ others) whole all (m, rest, sum, parts, is, all_is) =
-    let more = verdict_begins next.0 next.1 others rest sum parts in
-    (m.behind ++ more.0, is ∙ ap (λ (l : List ℕ). m.own ++ l) (more.1 ∙ ap (λ (l : List ℕ). l ++ more.0) m.begins ∙ append_assoc m.seam m.behind more.0) ∙ sym (append_assoc m.own m.seam (m.behind ++ more.0)) ∙ ap (λ (l : List ℕ). l ++ (m.behind ++ more.0)) (sym m.ends))
+verdict_parts : (first : List ℕ) (v : Verdict) (others : List (List ℕ × Verdict)) (whole : List ℕ) (all : Verdict) → HasVerdict first v others whole all → AreParts first (map (λ (part : List ℕ × Verdict). part.0) others) whole
+verdict_parts first v [] whole all is = is.0
+verdict_parts first v (next ∷ others) whole all (m, rest, sum, parts, is, all_is) = (m, rest, verdict_parts next.0 next.1 others rest sum parts, is)
 
 judged_same : (text whole : List ℕ) (v all : Verdict) → whole ≡ text → all ≡ v → IsJudged text v → IsJudged whole all
 judged_same text whole v all is same judged = subst (λ (l : List ℕ). IsJudged l all) (sym is) (subst (IsJudged text) (sym same) judged)
@@ -97,7 +91,7 @@ pub parts_are_judged : PartsAreJudged
 parts_are_judged first v [] whole all is judged others_judged = judged_same first whole v all is.0 is.1 judged
 parts_are_judged first v (next ∷ others) whole all (m, rest, sum, parts, is, all_is) judged others_judged =
     let behind = parts_are_judged next.0 next.1 others rest sum parts others_judged.0 others_judged.1 in
-    let more = verdict_begins next.0 next.1 others rest sum parts in
+    let more = begins_with next.0 (map (λ (part : List ℕ × Verdict). part.0) others) rest (verdict_parts next.0 next.1 others rest sum parts) in
     let n = longer first next.0 more.0 rest m more.1 in
     judged_same (m.own ++ rest) whole (joined_verdict v (line_feeds m.own) sum) all is all_is (judged_both first rest n.0 v sum judged behind)
 
@@ -112,7 +106,7 @@ bases_are_seams rules size base few shaped =
       head = base_head rules size;
       numbers = numbers;
       rest = lines_with_ends node_record_text base.nodes ++ lines_with_ends link_text base.edges;
-      is = sym (append-nil (base_text rules size base)) ∙ base_behind rules size base [] ∙ ap (λ (l : List ℕ). base_head rules size ++ 10 ∷ l) (append-nil (base_lines base) ∙ append_assoc numbers (10 ∷ []) (lines_with_ends node_record_text base.nodes ++ lines_with_ends link_text base.edges));
+      is = base_lines_are rules size base;
       begins = (_, refl);
       first = line_free (Head rules size) few;
       second = line_free (Numbers (base_numbers base)) counts;

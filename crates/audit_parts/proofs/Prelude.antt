@@ -19,8 +19,8 @@ pub use Rattle.auditor.proofs.TextEnds.{Fails, FailsBehind, FailsFirst, Split, d
 pub use Rattle.auditor.proofs.Windows.{begins_less, begins_more, breaks_more, feeds_append, feeds_broken, first_line-more, free_feeds}
 pub use Rattle.auditor.specs.AcceptedRuns.{IsAccepted, Counts}
 pub use Rattle.auditor.specs.Damage.{TranscriptPrefix, HasImpossibleBase, HasBrokenBase, EntryComes, BeginsWithTranscript, HasBadHeader, HasBadStart, HasNoEntry, IsDamage, IsLineBehind, CommonPrefix, line_feeds, BeginsBase}
-pub use Rattle.auditor.specs.Parts.{Opening, Named, Based, Opens, StepsTo, opening_text, part_text, parts_text, size_of, count_after, IsOpening, base_in, present_of}
-pub use Rattle.auditor.specs.Transcript.{IsLogPart, IsTranscript, disturbances_in, epoch_count, move_count, reply_moves}
+pub use Rattle.auditor.specs.Parts.{Opening, Named, Based, Opens, StepsTo, opening_text, part_text, parts_text, size_of, count_after, IsOpening}
+pub use Rattle.auditor.specs.Transcript.{IsLogPart, IsTranscript, disturbances_in, reply_moves}
 pub use Rattle.auditor.specs.TranscriptEnds.{end_moment}
 pub use Rattle.auditor.specs.Verdict.{IsJudged}
 pub use Rattle.auditor.specs.declared.fault.AuditFault.{AuditFault}
@@ -57,7 +57,7 @@ pub use Rattle.rule_machine.specs.Refuse.{both_present, max_edges, refusal_of}
 pub use Rattle.rule_machine.specs.RuleTable.{RuleTable}
 pub use Rattle.rule_machine.specs.Run.{Entry, Moment, Run}
 pub use Rattle.rule_machine.specs.State.{State, IsState, pointer}
-pub use Rattle.rule_machine.specs.Tables.{table_of, weight_of}
+pub use Rattle.rule_machine.specs.Tables.{table_of}
 pub use Rattle.rule_machine.specs.declared.base.Base.{Base}
 pub use Rattle.rule_machine.specs.declared.event.Event.{Event}
 pub use Rattle.rule_machine.specs.declared.event.Event.TheVariants.{Unlink, Point, Flag, Step, Show, Enabled, Matching, Status, Join, Leave}
@@ -66,8 +66,7 @@ pub use Rattle.rule_machine.specs.declared.refusal.Refusal.TheVariants.{UnknownN
 pub use Rattle.rule_machine.specs.declared.reply.Reply.{Reply}
 pub use Rattle.rule_machine.specs.declared.reply.Reply.TheVariants.{Accepted, Moves, Shown, EnabledAre, Pairs}
 pub use Rattle.rule_machine.specs.declared.rule_set.RuleSet.{RuleSet}
-pub use Rattle.rule_machine.specs.declared.rule_set.RuleSet.TheVariants.{Hh, Manne}
-pub use Rattle.audit_parts.specs.Continuations.{ContinuesRun, base_at, end_base}
+pub use Rattle.audit_parts.specs.Continuations.{ContinuesRun, base_at}
 pub use Rattle.audit_parts.specs.FieldRanges.{AreLinesBefore}
 pub use Rattle.audit_parts.specs.Laws.{AcceptedIsContinued, AcceptedIsShort, AcceptedIsWhole, HasShortLines, IsShortLine, AllPartsAreAccepted, AreParts, BasesAreSeams, ContinuedIsDamaged, EndBasesAreAccepted, EndsAreContinued, FirstDamageStays, HasVerdict, IsAcceptedText, JoinedIsAccepted, PartsAreAccepted, PartsAreJudged, SecondDamageMoves}
 pub use Rattle.audit_parts.specs.Seams.{EndsLine, IsSeam, further, counted_both, Meets, Verdict, joined_verdict}

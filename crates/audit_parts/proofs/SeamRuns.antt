@@ -1,5 +1,5 @@
 -- A run may begin again at the base of its state; and a base in a text is a seam.
-use Rattle.audit_parts.proofs.Prelude.{◌≡◌, ℕ, ◌+◌, ◌≤◌, List, [], ◌∷◌, ◌++◌, length, refl, sym, ap, subst, ◌∙◌, append_assoc, append-nil, arith, AllByRecursion, append_cancel_left, Base, RuleSet, edge_count, node_count, pair_cmp, LogPart, NumberedMoment, Passes, base_of, entries_in, Moment, table_of, passes_run, edges_len, lines_with_ends, base_head, base_text, link_text, numbers_line, node_record_text, Head, Place, Link, AreCounts, base_numbers, IsFree, IsPlace, IsShaped, base_lines, IsOrderedPair, max_entries, cons_parts, mark_once, line_free, line_feeds, Opening, Named, Based, IsOpening, Opens, size_of, feed, feeds_first, feeds_append, free_feeds, EndsLine, IsSeam, begins_again, light}
+use Rattle.audit_parts.proofs.Prelude.{◌≡◌, ℕ, ◌+◌, ◌≤◌, List, [], ◌∷◌, ◌++◌, length, refl, sym, ap, subst, ◌∙◌, append_assoc, append-nil, arith, AllByRecursion, append_cancel_left, Base, RuleSet, edge_count, node_count, pair_cmp, LogPart, NumberedMoment, Passes, base_of, entries_in, Moment, table_of, passes_run, edges_len, lines_with_ends, base_head, base_text, link_text, numbers_line, node_record_text, Head, Place, Link, AreCounts, base_numbers, IsFree, IsPlace, IsShaped, IsOrderedPair, max_entries, cons_parts, mark_once, line_free, line_feeds, Opening, Named, Based, IsOpening, Opens, size_of, feed, feeds_first, feeds_append, free_feeds, EndsLine, IsSeam, begins_again, light, base_lines}
 use Rattle.std.specs.FinMap as finmap
 use Rattle.entry_grammar.specs.declared.base_line.BaseLine.TheVariants.{Base as Numbers}
 use Rattle.audit_parts.proofs.Lines.{base_behind, ends_both, ends_line, ends_tail}
@@ -11,14 +11,9 @@ opening_small (Based size base) is = is.few
 
 opening_few : (rules : RuleSet) (o : Opening) (start : NumberedMoment) → Opens rules o start → edge_count start.moment.state.network ≤ 1048576
 opening_few rules (Named size count) start opens =
-    let same = ap (λ (m : Moment). edge_count m.state.network) opens.begins in
-    let none = finmap.len-empty pair_cmp (Unit {0}) in
-    omega (arith, same, none)
+    omega (arith, ap (λ (m : Moment). edge_count m.state.network) opens.begins, finmap.len-empty pair_cmp (Unit {0}))
 opening_few rules (Based size base) start opens =
-    let same = ap (λ (b : Base). length b.edges) opens.begins.lines in
-    let all = edges_len start.moment.state.network in
-    let few = opens.fits.edges in
-    omega (arith, same, all, few)
+    omega (arith, ap (λ (b : Base). length b.edges) opens.begins.lines, edges_len start.moment.state.network, opens.fits.edges)
 
 -- a run may begin at any state that a run has reached
 pub reopens : (rules : RuleSet) (o : Opening) (start end : NumberedMoment) (log : List LogPart) → Opens rules o start → Passes (table_of rules) start log end → end.count ≤ max_entries → Opens rules (Based (size_of o) (base_of end.count end.moment)) end
@@ -30,13 +25,12 @@ reopens rules o start end log opens passes few =
     let edges = runs_few t start.moment (entries_in log) end.moment (opening_few rules o start opens) run in
     let net = end.moment.state.network in
     let bounded = light rules end.moment.spent (t.charge end.moment.state) (edge_count net) (node_count net) begun.within in
-    let all = edges_len net in
     record {
       fits = record {
         few = small;
         shaped = base_shaped end.count (size_of o) end.moment begun.is_state begun.size_is small few edges bounded;
         number = few;
-        edges = omega (arith, all, edges);
+        edges = omega (arith, edges_len net, edges);
       };
       begins = begun;
       count = refl;
@@ -49,17 +43,12 @@ ended_lines text fits free [] all = (refl, tt)
 ended_lines text fits free (x ∷ xs) all =
     let rest = ended_lines text fits free xs all.1 in
     let both = feeds_append (text x ++ 10 ∷ []) (lines_with_ends text xs) in
-    let own = feeds_append (text x) (10 ∷ []) in
-    let none = free_feeds (text x) (free x all.0) in
-    (omega (arith, rest.0, both, own, none), ends_both (text x ++ 10 ∷ []) (lines_with_ends text xs) (ends_line (text x) [] tt) rest.1)
+    (omega (arith, rest.0, both, feeds_append (text x) (10 ∷ []), free_feeds (text x) (free x all.0)), ends_both (text x ++ 10 ∷ []) (lines_with_ends text xs) (ends_line (text x) [] tt) rest.1)
 
 -- whole lines that are some have a line feed
 some_feeds : (b : ℕ) (x : List ℕ) → EndsLine (b ∷ x) → 1 ≤ line_feeds (b ∷ x)
-some_feeds b [] h = let one = ap (λ (z : ℕ). line_feeds (z ∷ [])) h in omega (arith, one)
-some_feeds b (c ∷ x) h =
-    let first = feeds_first b (c ∷ x) in
-    let rest = some_feeds c x h in
-    omega (arith, first, rest)
+some_feeds b [] h = omega (arith, ap (λ (z : ℕ). line_feeds (z ∷ [])) h)
+some_feeds b (c ∷ x) h = omega (arith, feeds_first b (c ∷ x), some_feeds c x h)
 
 pub no_feeds : (x : List ℕ) → EndsLine x → line_feeds x ≡ 0 → x ≡ []
 no_feeds [] h none = refl
@@ -72,10 +61,7 @@ lines_once [] (c ∷ b) m k f g e same = absurd (omega (arith, same, some_feeds 
 lines_once (c ∷ a) [] m k f g e same = absurd (omega (arith, same, some_feeds c a f))
 lines_once (c ∷ a) (d ∷ b) m k f g e same =
     let p = cons_parts c d (a ++ m) (b ++ k) e in
-    let left = feeds_first c a in
-    let right = feeds_first d b in
-    let byte = ap feed p.0 in
-    ap (λ (z : ℕ). z ∷ a) p.0 ∙ ap (λ (l : List ℕ). d ∷ l) (lines_once a b m k (ends_tail c a f) (ends_tail d b g) p.1 (omega (arith, same, left, right, byte)))
+    ap (λ (z : ℕ). z ∷ a) p.0 ∙ ap (λ (l : List ℕ). d ∷ l) (lines_once a b m k (ends_tail c a f) (ends_tail d b g) p.1 (omega (arith, same, feeds_first c a, feeds_first d b, ap feed p.0)))
 
 pub others_told : (base : Base) → IsShaped base → (line_feeds (lines_with_ends node_record_text base.nodes ++ lines_with_ends link_text base.edges) ≡ length base.nodes + length base.edges) × EndsLine (lines_with_ends node_record_text base.nodes ++ lines_with_ends link_text base.edges)
 others_told base shaped =
@@ -84,23 +70,28 @@ others_told base shaped =
     let both = feeds_append (lines_with_ends node_record_text base.nodes) (lines_with_ends link_text base.edges) in
     (omega (arith, nodes.0, edges.0, both), ends_both (lines_with_ends node_record_text base.nodes) (lines_with_ends link_text base.edges) nodes.1 edges.1)
 
+-- the first two lines of a base, and the others
+pub base_lines_are : (rules : RuleSet) (size : ℕ) (base : Base) → base_text rules size base ≡ base_head rules size ++ 10 ∷ (numbers_line base ++ 10 ∷ (lines_with_ends node_record_text base.nodes ++ lines_with_ends link_text base.edges))
+base_lines_are rules size base = sym (append-nil (base_text rules size base)) ∙ base_behind rules size base [] ∙ ap (λ (l : List ℕ). base_head rules size ++ 10 ∷ l) (append-nil (base_lines base) ∙ append_assoc (numbers_line base) (10 ∷ []) (lines_with_ends node_record_text base.nodes ++ lines_with_ends link_text base.edges))
+
+both_more : (first second rest more : List ℕ) → (first ++ 10 ∷ (second ++ 10 ∷ rest)) ++ more ≡ first ++ 10 ∷ (second ++ 10 ∷ (rest ++ more))
+both_more first second rest more = simp append_assoc
+
 -- a base and a seam at the beginning of one text are one
 pub seam_is : (rules : RuleSet) (size : ℕ) (base : Base) → size ≤ 65535 → IsShaped base → (seam : List ℕ) → IsSeam seam → (m k : List ℕ) → base_text rules size base ++ m ≡ seam ++ k → base_text rules size base ≡ seam
 seam_is rules size base few shaped seam is m k e =
     let head = base_head rules size in
     let numbers = numbers_line base in
     let others = lines_with_ends node_record_text base.nodes ++ lines_with_ends link_text base.edges in
-    let had : seam ++ k ≡ is.head ++ 10 ∷ (is.numbers ++ 10 ∷ (is.rest ++ k)) =
-    ap (λ (l : List ℕ). l ++ k) is.is ∙ append_assoc is.head (10 ∷ (is.numbers ++ 10 ∷ is.rest)) k ∙ ap (λ (l : List ℕ). is.head ++ 10 ∷ l) (append_assoc is.numbers (10 ∷ is.rest) k) in
-    let first = mark_once 10 head is.head (base_lines base ++ m) (is.numbers ++ 10 ∷ (is.rest ++ k)) (line_free (Head rules size) few) is.first (sym (base_behind rules size base m) ∙ e ∙ had) in
-    let lines : base_lines base ++ m ≡ numbers ++ 10 ∷ (others ++ m) = append_assoc (numbers ++ 10 ∷ []) others m ∙ append_assoc numbers (10 ∷ []) (others ++ m) in
+    let wants : base_text rules size base ++ m ≡ head ++ 10 ∷ (numbers ++ 10 ∷ (others ++ m)) = ap (λ (l : List ℕ). l ++ m) (base_lines_are rules size base) ∙ both_more head numbers others m in
+    let had : seam ++ k ≡ is.head ++ 10 ∷ (is.numbers ++ 10 ∷ (is.rest ++ k)) = ap (λ (l : List ℕ). l ++ k) is.is ∙ both_more is.head is.numbers is.rest k in
+    let first = mark_once 10 head is.head (numbers ++ 10 ∷ (others ++ m)) (is.numbers ++ 10 ∷ (is.rest ++ k)) (line_free (Head rules size) few) is.first (sym wants ∙ e ∙ had) in
     let counts : AreCounts (base_numbers base) = (shaped.number, shaped.spent, shaped.nodes, shaped.edges) in
-    let second = mark_once 10 numbers is.numbers (others ++ m) (is.rest ++ k) (line_free (Numbers (base_numbers base)) counts) is.second (sym lines ∙ first.1) in
+    let second = mark_once 10 numbers is.numbers (others ++ m) (is.rest ++ k) (line_free (Numbers (base_numbers base)) counts) is.second first.1 in
     let wanted = others_told base shaped in
     let told = is.told (base_numbers base) counts (sym second.0) in
     let rest = lines_once others is.rest m k wanted.1 is.whole second.1 (wanted.0 ∙ sym told) in
-    sym (append-nil (base_text rules size base)) ∙ base_behind rules size base []
-    ∙ ap (λ (l : List ℕ). head ++ 10 ∷ l) (append-nil (base_lines base) ∙ append_assoc numbers (10 ∷ []) others)
+    base_lines_are rules size base
     ∙ ap (λ (l : List ℕ). l ++ 10 ∷ (numbers ++ 10 ∷ others)) first.0
     ∙ ap (λ (l : List ℕ). is.head ++ 10 ∷ (l ++ 10 ∷ others)) second.0
     ∙ ap (λ (l : List ℕ). is.head ++ 10 ∷ (is.numbers ++ 10 ∷ l)) rest

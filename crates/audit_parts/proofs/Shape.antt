@@ -1,5 +1,5 @@
 -- A transcript may begin with the base of any state that a run has reached.
-use Rattle.audit_parts.proofs.Prelude.{◌≡◌, ℕ, zero, suc, ◌+◌, ◌*◌, ◌<◌, ◌≤◌, Bool, true, false, cond, not, T, List, [], ◌∷◌, filter, length, map, Option, None, Some, IfSome, IsTrue, nat_eq, nat_le, refl, sym, subst, ◌∙◌, ◌-◌, inl, inr, arith, AllByRecursion, range_with_len, ranked, is_sorted, below_all, is_lt, nat_cmp, ordering_then, Ordering, Less, Equal, Greater, and_parts, leb-false, length-map, count_by-le-length, length-filter, Event, Unlink, Point, Flag, Step, Show, Enabled, Matching, Status, Join, Leave, Refusal, UnknownNode, SelfLoop, AlreadyLinked, TooManyEdges, Reply, Accepted, Moves, Shown, EnabledAre, Pairs, Network, pair_cmp, edge, edge_count, edge_list, is_end, linked, names, node_count, present, State, IsState, pointer, RuleTable, both_present, max_edges, refusal_of, AnswersBy, Does, spent_after, base_of, node_record_at, Entry, Moment, Run, cond_none, left_was, pair_total, linked_back, linked_present, present_range, pointer_linked, IsIn, count_all, count_into, edges_without_repeats, edges_contain, edges_len, in_edges, IsName, EdgesRise, IsEdgeAbove, IsPlace, IsShaped, NodesRise}
+use Rattle.audit_parts.proofs.Prelude.{◌≡◌, ℕ, zero, suc, ◌+◌, ◌*◌, ◌<◌, ◌≤◌, Bool, true, false, cond, not, T, List, [], ◌∷◌, filter, map, Option, None, Some, IfSome, IsTrue, nat_eq, nat_le, refl, sym, subst, ◌∙◌, ◌-◌, inl, inr, arith, AllByRecursion, range_with_len, ranked, is_sorted, below_all, is_lt, nat_cmp, ordering_then, Ordering, Less, Equal, Greater, and_parts, leb-false, length-map, count_by-le-length, length-filter, Event, Unlink, Point, Flag, Step, Show, Enabled, Matching, Status, Join, Leave, Refusal, UnknownNode, SelfLoop, AlreadyLinked, TooManyEdges, Reply, Accepted, Moves, Shown, EnabledAre, Pairs, Network, pair_cmp, edge, edge_count, edge_list, is_end, linked, names, node_count, present, State, IsState, pointer, RuleTable, both_present, max_edges, refusal_of, AnswersBy, Does, spent_after, base_of, node_record_at, Entry, Moment, Run, cond_none, left_was, pair_total, linked_back, linked_present, present_range, pointer_linked, IsIn, count_all, count_into, edges_without_repeats, edges_contain, edges_len, in_edges, IsName, EdgesRise, IsEdgeAbove, IsPlace, IsShaped, NodesRise}
 use Rattle.std.proofs.lemmas.List.FromFn.{length-range_with_len}
 use Rattle.std.specs.FinMap as finmap
 use Rattle.rule_machine.specs.declared.event.Event.TheVariants.{Link}
@@ -17,11 +17,7 @@ left_few net p was =
       passes = λ e there passes. refl;
       apart = λ e f there also passes other same. same;
     }) in
-    let here = count_all (edge_list less) in
-    let all = count_all (edge_list net) in
-    let own = edges_len less in
-    let others = edges_len net in
-    omega (arith, fewer, here, all, own, others)
+    omega (arith, fewer, count_all (edge_list less), count_all (edge_list net), edges_len less, edges_len net)
 
 one_more : (b : Bool) (n : ℕ) → cond b n (n + 1) ≤ n + 1
 one_more true n = omega arith
@@ -43,14 +39,11 @@ AreFew s = edge_count s.network ≤ max_edges
 
 does_few : (t : RuleTable) (s : State) (n : ℕ) (event : Event) (reply : Reply) (s' : State) → refusal_of t s event ≡ None → AreFew s → Does t s n event reply s' → AreFew s'
 does_few t s n (Link a b) Accepted s' free few does =
-    let more = finmap.len-insert pair_total s.network.edges (edge a b) tt in
     let one = one_more (finmap.contains_key s.network.edges (edge a b)) (edge_count s.network) in
-    let room = link_few s.network a b free in
-    subst AreFew (sym does) (omega (arith, more, one, room))
+    subst AreFew (sym does) (omega (arith, finmap.len-insert pair_total s.network.edges (edge a b) tt, one, link_few s.network a b free))
 does_few t s n (Unlink a b) Accepted s' free few does =
-    let less = finmap.len-remove pair_total s.network.edges (edge a b) in
     let one = one_less (finmap.contains_key s.network.edges (edge a b)) (edge_count s.network) in
-    subst AreFew (sym does) (omega (arith, less, one, few))
+    subst AreFew (sym does) (omega (arith, finmap.len-remove pair_total s.network.edges (edge a b), one, few))
 does_few t s n (Point v target) Accepted s' free few does = subst AreFew (sym does) few
 does_few t s n (Flag v value) Accepted s' free few does = subst AreFew (sym does) few
 does_few t s n (Join v) Accepted s' free few does = subst AreFew (sym does) few
@@ -88,11 +81,8 @@ module _ (s : State) (good : IsState s) (size : ℕ) (same : s.network.size ≡ 
     rise : NodesRise last (map (node_record_at s) vs)
     fit : AllByRecursion IsPlace (map (node_record_at s) vs)
 
-  none_listed : (last : ℕ) → Listed last []
-  none_listed last = record { rise = tt; fit = tt }
-
   from_range : (n a last : ℕ) → last < a → Listed last (filter (present s.network) (range_with_len a n))
-  from_range zero a last below = none_listed last
+  from_range zero a last below = record { rise = tt; fit = tt }
   from_range (suc n) a last below =
       go (present s.network a) refl (from_range n (a + 1) a (omega arith)) (from_range n (a + 1) last (omega (arith, below)))
     where
@@ -151,23 +141,18 @@ first_rise (e ∷ es) fit sorted =
 
 pub nodes_few : (net : Network) → node_count net ≤ net.size
 nodes_few net =
-    let kept = length-filter (present net) (range_with_len 1 net.size) in
-    let few = count_by-le-length (present net) (range_with_len 1 net.size) in
-    let all = length-range_with_len 1 net.size in
-    omega (arith, kept, few, all)
+    omega (arith, length-filter (present net) (range_with_len 1 net.size), count_by-le-length (present net) (range_with_len 1 net.size), length-range_with_len 1 net.size)
 
 pub base_shaped : (number size : ℕ) (m : Moment) → IsState m.state → m.state.network.size ≡ size → size ≤ 65535 → number ≤ 16777216 → edge_count m.state.network ≤ 1048576 → m.spent ≤ 2 * edge_count m.state.network + 3 * node_count m.state.network → IsShaped (base_of number m)
 base_shaped number size m good same small low few bounded =
     let s = m.state in
-    let nodes = length-map (names s.network) (node_record_at s) in
     let some = nodes_few s.network in
-    let edges = edges_len s.network in
     let links = links_fit s good size same small in
     record {
       number = omega (arith, low);
       spent = omega (arith, bounded, few, some, same, small);
-      nodes = omega (arith, nodes, some, same, small);
-      edges = omega (arith, edges, few);
+      nodes = omega (arith, length-map (names s.network) (node_record_at s), some, same, small);
+      edges = omega (arith, edges_len s.network, few);
       places = (listed s good size same small).fit;
       links = links;
       nodes_rise = (listed s good size same small).rise;

@@ -1,20 +1,15 @@
 -- The lines of an accepted text are short.
-use Rattle.audit_parts.proofs.Prelude.{ℕ, ◌+◌, ◌≤◌, List, [], ◌∷◌, ◌++◌, length, refl, sym, ap, subst, ◌∙◌, append-nil, arith, AllByRecursion, Base, RuleSet, LogPart, EntryPart, BasePart, NumberedMoment, Passes, base_of, table_of, entry_text, header_text, base_text, base_head, base_lines, base_line_text, base_text_is, lines_text, lines_of_base, lines_with_ends, BaseLine, Head, IsBaseLine, IsShaped, line_free, IsFree, SpellsEntry, max_entries, Opening, Named, Based, IsOpening, opening_text, part_text, parts_text, size_of, count_after, IsLogPart, StepsTo, passes_first, passes_rise, step_count, entry_free, header_free, AcceptedIsShort, HasShortLines, IsShortLine}
+use Rattle.audit_parts.proofs.Prelude.{ℕ, ◌+◌, ◌≤◌, List, [], ◌∷◌, ◌++◌, length, refl, sym, subst, append-nil, arith, AllByRecursion, Base, RuleSet, LogPart, EntryPart, BasePart, NumberedMoment, Passes, base_of, table_of, entry_text, header_text, base_text, base_head, base_lines, base_line_text, base_text_is, lines_text, lines_of_base, lines_with_ends, BaseLine, Head, IsBaseLine, IsShaped, line_free, IsFree, SpellsEntry, max_entries, Opening, Named, Based, IsOpening, opening_text, part_text, parts_text, size_of, count_after, IsLogPart, StepsTo, passes_first, passes_rise, step_count, entry_free, header_free, AcceptedIsShort, HasShortLines, IsShortLine, ap, ◌∙◌}
 use Rattle.std.proofs.lemmas.List.Concat.{flat_map-append}
 use Rattle.entry_grammar.proofs.EntryLengths.{entry_short}
 use Rattle.auditor.proofs.LongLines.{base_line_short, header_short}
-use Rattle.audit_parts.proofs.CutTranscripts.{Reopens, reopens_next}
-use Rattle.audit_parts.proofs.Lines.{base_fits}
-use Rattle.audit_parts.proofs.SeamRuns.{reopens}
+use Rattle.audit_parts.proofs.CutTranscripts.{Reopens, reopens_next, reopens_start}
+use Rattle.audit_parts.proofs.Lines.{all_both, base_fits}
 
 -- ---- texts of short lines
 
 no_lines : HasShortLines []
 no_lines = record { lines = []; short = tt; is = refl }
-
-all_both : (P : List ℕ → Type 0) (xs ys : List (List ℕ)) → AllByRecursion P xs → AllByRecursion P ys → AllByRecursion P (xs ++ ys)
-all_both P [] ys f g = g
-all_both P (x ∷ xs) ys f g = (f.0, all_both P xs ys f.1 g)
 
 both_short : (a b : List ℕ) → HasShortLines a → HasShortLines b → HasShortLines (a ++ b)
 both_short a b x y = record {
@@ -67,8 +62,7 @@ parts_short rules size at end (part ∷ log) begun passes few fit =
     let split = passes_first t at end part log passes in
     let next = split.0 in
     let count = step_count t at next part split.1 in
-    let rises = passes_rise t next end log split.2 in
-    let within : next.count ≤ max_entries = omega (arith, rises, few) in
+    let within : next.count ≤ max_entries = omega (arith, passes_rise t next end log split.2, few) in
     let rest = parts_short rules size next end log (reopens_next rules size at next part begun split.1 within) split.2 few fit.1 in
     both_short (part_text rules size at.count part) (parts_text rules size (count_after at.count part) log) (part_short rules size at next part begun split.1 within fit.0)
     (subst (λ (n : ℕ). HasShortLines (parts_text rules size n log)) count rest)
@@ -77,9 +71,6 @@ pub accepted_is_short : AcceptedIsShort
 accepted_is_short text (c, x) =
     let is = x.transcript in
     let o = x.opening in
-    let start = is.start in
-    let rises = passes_rise (table_of x.rules) start x.end x.log is.passes in
-    let most = is.not_too_many in
-    let begun : Reopens x.rules (size_of o) start = reopens x.rules o start start [] is.opens refl (omega (arith, rises, most)) in
+    let begun = reopens_start text x.rules o x.log x.end is in
     subst HasShortLines (sym is.text)
-    (both_short (opening_text x.rules o) (parts_text x.rules (size_of o) start.count x.log) (opening_short x.rules o is.opens.fits) (parts_short x.rules (size_of o) start x.end x.log begun is.passes most is.parts))
+    (both_short (opening_text x.rules o) (parts_text x.rules (size_of o) is.start.count x.log) (opening_short x.rules o is.opens.fits) (parts_short x.rules (size_of o) is.start x.end x.log begun is.passes is.not_too_many is.parts))

@@ -1,8 +1,5 @@
-use Rattle.audit_parts.proofs.PartLaws.{first_damage_stays, second_damage_moves}
+use Rattle.audit_parts.proofs.PartLaws.{second_damage_moves}
 use Rattle.audit_parts.proofs.law.damaged_in_two.Goals as goal
-
-pub returns-clause-first : goal.returns-clause-first
-returns-clause-first c = first_damage_stays
 
 pub returns-clause-second : goal.returns-clause-second
 returns-clause-second c = second_damage_moves
