@@ -1,11 +1,8 @@
-pub mod AcceptedDraws
-pub mod DrawnTurns
 pub mod Prelude
-pub mod Words
+pub mod DrawnTurns
 pub mod Once
 pub mod Lengths
 pub mod LineEnds
 pub mod LongLines
 pub mod TextLines
-pub mod ScriptCounts
 pub mod Silence

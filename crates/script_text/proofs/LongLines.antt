@@ -16,11 +16,7 @@ use Rattle.script_text.proofs.LineEnds.{goes_on, line_joined, lines_of-whole}
 -- ---- how far the last line has come
 
 pub begun_none : (text : List ℕ) → EndsInLine text 0
-begun_none text = (text, [], sym (nothing text), tt, refl)
-  where
-    nothing : (l : List ℕ) → l ++ [] ≡ l
-    nothing [] = refl
-    nothing (b ∷ l) = ap (λ (z : List ℕ). b ∷ z) (nothing l)
+begun_none text = (text, [], sym (append-nil text), tt, refl)
 
 pub begun_more : (text piece : List ℕ) (begun : ℕ) → IsLine piece → EndsInLine text begun → EndsInLine (text ++ piece) (begun + length piece)
 begun_more text piece begun free (front, line, is, own, long) = (
@@ -35,11 +31,7 @@ begun_more text piece begun free (front, line, is, own, long) = (
 
 pub few_after : (most begun len after : ℕ) (piece : List ℕ) → begun ≤ most → len ≤ 65536 → after ≤ begun + length (take len piece) → after ≤ most + 65536
 few_after most begun len after piece few short grown =
-    let taken : length (take len piece) ≤ 65536 = taken_few len piece short in
-    omega (arith, few, grown, taken)
-  where
-    taken_few : (n : ℕ) (l : List ℕ) → n ≤ 65536 → length (take n l) ≤ 65536
-    taken_few n l most = let is = length-take n l in grind (arith, is)
+    omega (arith, few, grown, short, length-take len piece)
 
 pub refilled : (k : ℕ) (new old : List ℕ) → length new ≡ k → take k (new ++ drop (length new) old) ≡ new
 refilled k new old same = ap (λ (n : ℕ). take n (new ++ drop (length new) old)) (sym same) ∙ take-append_seam new (drop (length new) old)
@@ -169,10 +161,6 @@ bad_all all text bad (inr (more, begun, is, ends, far)) is_bad =
     subst (λ (l : List (List ℕ)). FirstBad 1 l bad) (sym c.all) (bad_too 1 bad c.good c.last c.longer c.others c.far c.further (subst (λ (l : List (List ℕ)). FirstBad 1 l bad) c.read is_bad))
 
 -- the same of what a reader had, if that is known
-known_held : (known : Option (List ℕ)) (text : List ℕ) (script : List ScriptLine) → IfSome known (λ all. IsReadSoFar all text) → TextHolds text script → IfSome known (λ all. TextHolds all script)
-known_held None text script read holds = tt
-known_held (Some all) text script read holds = held_all all text script read holds
-
 known_fault : (number : ℕ) (known : Option (List ℕ)) (text : List ℕ) (fault : TextsFault) → IfSome known (λ all. IsReadSoFar all text) → IsTextFault number text fault → IsReaderFault number known fault
 known_fault number known text TooManyScripts read is = is
 known_fault number known text Read read is = tt
@@ -181,7 +169,8 @@ known_fault number None text (BadLine script line) read (own, bad) = (own, tt)
 known_fault number (Some all) text (BadLine script line) read (own, bad) = (own, bad_all all text line read bad)
 
 pub script_read : {S : Type 0} (lines : S → List ScriptLine) (known : Option (List ℕ)) (text : List ℕ) (result : Result S TextsFault) → IfSome known (λ all. IsReadSoFar all text) → IfOk result (λ script. TextHolds text (lines script)) → IfOk result (λ script. IfSome known (λ all. TextHolds all (lines script)))
-script_read lines known text (Ok script) read holds = known_held known text (lines script) read holds
+script_read lines None text (Ok script) read holds = tt
+script_read lines (Some all) text (Ok script) read holds = held_all all text (lines script) read holds
 script_read lines known text (Err fault) read holds = tt
 
 pub fault_read : {S : Type 0} (number : ℕ) (known : Option (List ℕ)) (text : List ℕ) (result : Result S TextsFault) → IfSome known (λ all. IsReadSoFar all text) → IfErr result (IsTextFault number text) → IfErr result (IsReaderFault number known)

@@ -1,22 +1,37 @@
--- A line is at most one command, and commands lead to one end.
-use Rattle.script_text.proofs.Prelude.{◌≡◌, ℕ, zero, suc, ◌+◌, ◌*◌, Bool, true, false, ◌||◌, nat_eq, List, [], ◌∷◌, Option, None, Some, get_or, codes, refl, sym, ap, subst, ◌∙◌, append_assoc, arith, IsInRange, true≢false, append_cancel_left, digits_decimal, decimal_injective, Stream, Event, RuleSet, Link, Moment, RuleTable, number_text, event_text, own, run_once, spells_once, Command, Tell, Drive, Scramble, Checkpoint, Turns, IsTurns, IsCommand, turns_text, command_text, Says, Draws, seeded_stream, drawn_step, drawn_fault, Progress, AppendsEntry, TurnDoes, TurnsDo, CommandDoes, LineDoes, LinesDo, RoundCount}
-
-turns_of : ℕ → ℕ → Turns
-turns_of s c = record { seed = s; count = c }
+-- A line is at most one command, and commands lead to one end. The numbers of turns are cut at the first space.
+use Rattle.script_text.proofs.Prelude.{◌<◌, ◌^◌, ◌++◌, take, drop, add-one, slice_index, AllDigits, digit_from_value, eqb-true, ◌==◌, ◌≡◌, ℕ, zero, suc, ◌+◌, ◌*◌, Bool, true, false, ◌||◌, nat_eq, List, [], ◌∷◌, Option, None, Some, get_or, codes, refl, sym, ap, subst, ◌∙◌, arith, IsInRange, true≢false, append_cancel_left, digits_decimal, Stream, Event, Link, RuleTable, number_text, event_text, own, spells_once, Command, Tell, Drive, Scramble, Checkpoint, Turns, IsTurns, IsCommand, turns_text, command_text, Says, Draws, seeded_stream, drawn_step, drawn_fault, Progress, AppendsEntry, TurnDoes, TurnsDo, CommandDoes, LineDoes, LinesDo}
+use Rattle.line_text.proofs.Grammars.{IsReadBack, Undigited, alone, apart_by, nothing_ends, number_back, through}
 
 -- a seed and a count have one text
+turns_back : IsReadBack (λ (t : Turns). (t.seed < 18446744073709551616) × (t.count < 18446744073709551616)) turns_text Undigited
+turns_back =
+    through (apart_by 32 number_back number_back (λ n r (p : IsInRange 48 57 32). omega (arith, p.0))) (λ (t : Turns). (t.seed, t.count)) (λ p. record { seed = p.0; count = p.1 }) (λ t. refl)
+
 turns_once : (a b : Turns) → IsTurns a → IsTurns b → turns_text a ≡ turns_text b → a ≡ b
-unfolding turns_of
-turns_once a b f g e =
-    let x : List ℕ = number_text a.count in
-    let y : List ℕ = number_text b.count in
-    let digits_a = digits_decimal own a.seed (omega (arith, f.0)) in
-    let digits_b = digits_decimal own b.seed (omega (arith, g.0)) in
-    let r = run_once (number_text a.seed) (number_text b.seed) (32 ∷ x) (32 ∷ y) digits_a digits_b (λ (p : IsInRange 48 57 32). omega (arith, p.0)) (λ (p : IsInRange 48 57 32). omega (arith, p.0))
-    (sym (append_assoc (number_text a.seed) (32 ∷ []) x) ∙ e ∙ append_assoc (number_text b.seed) (32 ∷ []) y) in
-    let seeds = decimal_injective a.seed b.seed (omega (arith, f.0)) (omega (arith, g.0)) r.0 in
-    let counts = decimal_injective a.count b.count (omega (arith, f.1)) (omega (arith, g.1)) (append_cancel_left (32 ∷ []) x y r.1) in
-    ap (λ n. turns_of n a.count) seeds ∙ ap (λ n. turns_of b.seed n) counts
+turns_once a b f g e = alone turns_back (λ t. nothing_ends) a b (omega (arith, f.0), omega (arith, f.1)) (omega (arith, g.0), omega (arith, g.1)) e
+
+digit_is_no_space : (b : ℕ) → IsInRange 48 57 b → (b == 32) ≡ true → ⊥
+digit_is_no_space b d e = omega (arith, d.0, eqb-true b 32 e)
+
+-- the first space comes after the digits
+space_at : (ds x : List ℕ) (k : ℕ) → AllDigits 10 ds → ((j : ℕ) → j < k → (slice_index (ds ++ 32 ∷ x) j == 32) ≡ true → ⊥)
+    → (slice_index (ds ++ 32 ∷ x) k == 32) ≡ true → (take k (ds ++ 32 ∷ x) ≡ ds) × (drop (suc k) (ds ++ 32 ∷ x) ≡ x)
+space_at [] x zero d none here = (refl, refl)
+space_at [] x (suc k) d none here = absurd (none 0 (omega arith) refl)
+space_at (b ∷ ds) x zero d none here = absurd (digit_is_no_space b (digit_from_value b d.0) here)
+space_at (b ∷ ds) x (suc k) d none here =
+    let later = space_at ds x k d.1 (λ j below. none (suc j) (omega (arith, below))) here in
+    (ap (λ (z : List ℕ). b ∷ z) later.0, later.1)
+
+-- a seed and a count are what comes before and after the first space
+pub turns_cut : (bytes : List ℕ) (seed count k : ℕ) → seed < 2 ^ 64 → bytes ≡ number_text seed ++ 32 ∷ number_text count
+    → ((j : ℕ) → j < k → (slice_index bytes j == 32) ≡ true → ⊥) → (slice_index bytes k == 32) ≡ true
+    → (take k bytes ≡ number_text seed) × (drop (k + 1) bytes ≡ number_text count)
+turns_cut bytes seed count k few e none here =
+    let text : List ℕ = number_text seed ++ 32 ∷ number_text count in
+    let p = space_at (number_text seed) (number_text count) k (digits_decimal own seed few)
+    (λ j below at. none j below (ap (λ (z : List ℕ). slice_index z j == 32) e ∙ at)) (ap (λ (z : List ℕ). slice_index z k == 32) (sym e) ∙ here) in
+    (ap (take k) e ∙ p.0, ap (λ n. drop n bytes) (add-one k) ∙ ap (drop (suc k)) e ∙ p.1)
 
 -- the first two bytes, which tell the commands apart
 abbrev pub head_of : List ℕ → ℕ
@@ -48,16 +63,8 @@ command_once c d f g e = absurd (omega (arith, ap head_of e))
 pub says_once : (line : List ℕ) (c d : Command) → Says line c → Says line d → c ≡ d
 says_once line c d p q = command_once c d p.0 q.0 (sym p.1 ∙ q.1)
 
--- the parts of a progress
-progress_of : RuleSet → Moment → ℕ → List ℕ → Option RoundCount → Progress
-progress_of r m n x c = record { rules = r; moment = m; count = n; text = x; counting = c }
-
 same_progress : (p q : Progress) → p.rules ≡ q.rules → p.moment ≡ q.moment → p.count ≡ q.count → p.text ≡ q.text → p.counting ≡ q.counting → p ≡ q
-unfolding progress_of
-same_progress p q r m n x c =
-    ap (λ (z : RuleSet). progress_of z p.moment p.count p.text p.counting) r ∙ ap (λ (z : Moment). progress_of q.rules z p.count p.text p.counting) m
-    ∙ ap (λ (z : ℕ). progress_of q.rules q.moment z p.text p.counting) n ∙ ap (λ (z : List ℕ). progress_of q.rules q.moment q.count z p.counting) x
-    ∙ ap (λ (z : Option RoundCount). progress_of q.rules q.moment q.count q.text z) c
+same_progress p q r m n x c = λ i. record { rules = r i; moment = m i; count = n i; text = x i; counting = c i }
 
 -- an event leads to one progress
 entry_once : (t : RuleTable) (event : Event) (before after other : Progress) → AppendsEntry t event before after → AppendsEntry t event before other → after ≡ other

@@ -1,5 +1,6 @@
 -- A line that drives as many turns as the charge, and takes all of them, ends with no node enabled.
-use Rattle.script_text.proofs.Prelude.{◌≡◌, ℕ, zero, suc, ◌≤◌, List, [], ◌∷◌, Option, None, Some, sym, ap, subst, ⊎_elim, arith, option_map, Stream, Item, Event, Step, state_after, IsState, Moment, RuleTable, enabled_names, state_after_keeps, IsTable, option_cases, IsCharged, choice_drawn, turn_rests, turn_pays, zero_is_quiet, Draws, seeded_stream, drawn_step, drawn_fault, Command, Tell, Drive, Scramble, Checkpoint, Turns, Says, command_text, Progress, AppendsEntry, TurnDoes, TurnsDo, CommandDoes, LineDoes, LinesDo}
+use Rattle.script_text.proofs.Prelude.{◌≡◌, ℕ, zero, suc, ◌≤◌, List, [], ◌∷◌, Option, None, Some, sym, ap, subst, ⊎_elim, arith, option_map, Stream, Item, Event, Step, state_after, IsState, Moment, RuleTable, enabled_names, state_after_keeps, IsTable, option_cases, IsCharged, choice_drawn, Draws, seeded_stream, drawn_step, drawn_fault, Command, Tell, Drive, Scramble, Checkpoint, Turns, Says, Progress, AppendsEntry, TurnDoes, TurnsDo, CommandDoes, LineDoes, LinesDo}
+use Rattle.script_text.proofs.DrawnTurns.{turn_rests, turn_pays, zero_is_quiet}
 use Rattle.script_text.proofs.Once.{head_of, says_once}
 
 -- what the turns after the first do
@@ -19,17 +20,12 @@ turns_end_silent t weight table charged limit (suc turns) stream before after go
     let goes : TurnDoes t (Some (Step some.0)) (Others t limit turns stream before after) before after = subst (λ o. TurnDoes t (option_map (λ items. Step items) o) (Others t limit turns stream before after) before after) some.1 does in
     let pays = turn_pays t weight table charged before.moment.state good stream some.0 some.1 in
     let lands : goes.0.moment.state ≡ state_after t before.moment.state (Step some.0) = ap (λ m. m.state) goes.1.moment in
-    let falls = pays.falls in
-    let left = ap t.charge lands in
-    turns_end_silent t weight table charged limit turns (drawn_step t before.moment.state stream).1 goes.0 after (subst IsState (sym lands) pays.is_state) (omega (arith, falls, left, few)) goes.2)
+    turns_end_silent t weight table charged limit turns (drawn_step t before.moment.state stream).1 goes.0 after (subst IsState (sym lands) pays.is_state) (omega (arith, pays.falls, ap t.charge lands, few)) goes.2)
     (option_cases (choice_drawn t.central (enabled_names t before.moment.state) stream).0)
 
 -- a line
 pub line_ends_silent : (t : RuleTable) (weight : ℕ) → IsTable t → IsCharged t weight → (limit : ℕ) (line : List ℕ) (turns : Turns) (before after : Progress) → Says line (Drive turns) → LineDoes t limit line before after → IsState before.moment.state → t.charge before.moment.state ≤ turns.count → enabled_names t after.moment.state ≡ []
-line_ends_silent t weight table charged limit [] turns before after (fits, says) does good few = absurd (none_is_said says)
-  where
-    none_is_said : [] ≡ command_text (Drive turns) → ⊥
-    none_is_said same = omega (arith, ap head_of same)
+line_ends_silent t weight table charged limit [] turns before after (fits, says) does good few = absurd (omega (arith, ap head_of says))
 line_ends_silent t weight table charged limit (b ∷ line) turns before after says (command, said, does) good few =
     turns_end_silent t weight table charged limit turns.count (seeded_stream turns.seed) before after good few
     (subst (λ (c : Command). CommandDoes t limit c before after) (says_once (b ∷ line) command (Drive turns) said says) does)

@@ -1,7 +1,4 @@
-use Rattle.rule_machine.specs.HsuHuang.{hsu_huang}
-use Rattle.rule_machine.specs.Manne.{manne}
-use Rattle.machine_laws.proofs.Tables.{hsu_huang_table, manne_table}
-use Rattle.machine_laws.proofs.Laws.{hsu_huang_charged, manne_charged}
+use Rattle.script_text.proofs.Prelude.{hsu_huang, manne, hsu_huang_table, manne_table, hsu_huang_charged, manne_charged}
 use Rattle.script_text.proofs.DrawnTurns.{driven_is_quiet}
 use Rattle.script_text.proofs.law.long_draws_end_silent.Goals as goal
 

@@ -1,5 +1,5 @@
 use Rattle.script_text.proofs.Prelude.{[], ◌∷◌, ◌+◌, append_assoc, ◌∙◌, arith, take_rest, number_text}
-use Rattle.script_text.proofs.Words.{turns_cut}
+use Rattle.script_text.proofs.Once.{turns_cut}
 use Rattle.script_text.proofs.read.read_turns.Goals as goal
 
 pub returns-in_default-read_number : goal.returns-in_default-read_number

@@ -1,5 +1,5 @@
 use Rattle.script_text.proofs.Prelude.{map, arith, length-map}
-use Rattle.script_text.proofs.ScriptCounts.{few}
+use Rattle.script_text.proofs.TextLines.{few}
 use Rattle.script_text.proofs.reading.read_scripts.Goals as goal
 
 pub returns-clause-few : goal.returns-clause-few
