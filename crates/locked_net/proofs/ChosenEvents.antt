@@ -18,35 +18,24 @@ choice_on t log Chooses names central found items old new reply enabled same som
 pub begins_in : (t : RuleTable) (log after : RetainedLog) (event : Event) (note : Option PublishedLog) → after ≡ kept_with t log event → noted note ≡ after.entries → IsPrefix log.entries (noted note)
 begins_in t log after event note is tells = (next_entry t log event ∷ [], sym (tells ∙ ap (λ (l : RetainedLog). l.entries) is))
 
-if_some : {A : Type 0} (N P : Type 0) (told : Option A) → MatchOption told N (λ _. P) → IfSome told (λ _. P)
-if_some N P None idle = tt
-if_some N P (Some a) is = is
-
 -- on a log under the lock
-pub takes : (setting : Setting) (Chooses : State → Option Event → Type 0) (before after : PublishedJournalView) (old new : ClerkView) (result : Result (Option Reply) CallFault) → IsLogIn setting before.log
-    → Admits (call_fault (seen_by old) before.log) result → IfOk result (ChoosesOn setting.table before.log Chooses old.receipts new.receipts) → HeldCall some_of before after old new result
-    → IfOk result (ClerkTakes setting Chooses old new)
+pub takes : (setting : Setting) (Chooses : Option Reply → State → Option Event → Type 0) (before after : PublishedJournalView) (old new : ClerkView) (result : Result (Option Reply) CallFault) → IsLogIn setting before.log
+    → Admits (call_fault (seen_by old) before.log) result → IfOk result (λ told. ChoosesOn setting.table before.log (Chooses told) old.receipts new.receipts told) → HeldCall some_of before after old new result
+    → IfOk result (λ told. ClerkTakes setting (Chooses told) old new told)
 takes setting Chooses before after old new (Ok told) own free taken call = record {
   log = before.log;
   own = own;
   free = front_free old before.log free;
   taken = taken;
-  begins = if_some _ _ told call.begins;
+  begins = let begins = call.begins in grind arith;
 }
 takes setting Chooses before after old new (Err fault) own free taken call = tt
 
 -- nothing was chosen exactly if there is no node
-pub finds_none : (setting : Setting) (Chooses : State → Option Event → Type 0) (before after : PublishedJournalView) (old new : ClerkView) (result : Result (Option Reply) CallFault) → IsLogIn setting before.log
-    → Admits (call_fault (seen_by old) before.log) result → IfOk result (ChoosesOn setting.table before.log Chooses old.receipts new.receipts) → IfOk result (λ told. IsNone told ↔ (node_count before.log.state.network ≡ 0))
-    → HeldCall some_of before after old new result → IfOk result (λ told. ClerkTakes setting (λ s _. IsNone told ↔ (node_count s.network ≡ 0)) old new told)
-finds_none setting Chooses before after old new (Ok told) own free taken none call = record {
-  log = before.log;
-  own = own;
-  free = front_free old before.log free;
-  taken = record { event = taken.event; chosen = none; is_told = taken.is_told };
-  begins = if_some _ _ told call.begins;
-}
-finds_none setting Chooses before after old new (Err fault) own free taken none call = tt
+pub finds_none : (t : RuleTable) (log : RetainedLog) (Chooses : State → Option Event → Type 0) (old new : List Receipt) (result : Result (Option Reply) CallFault) → IfOk result (ChoosesOn t log Chooses old new)
+    → IfOk result (λ told. IsNone told ↔ (node_count log.state.network ≡ 0)) → IfOk result (λ told. ChoosesOn t log (λ s _. IsNone told ↔ (node_count s.network ≡ 0)) old new told)
+finds_none t log Chooses old new (Ok told) taken none = record { event = taken.event; chosen = none; is_told = taken.is_told }
+finds_none t log Chooses old new (Err fault) taken none = tt
 
 -- ---- receipts
 
@@ -61,17 +50,14 @@ keeps t log after old new event reply free is =
 
 pub keeps_call : (t : RuleTable) (log after : RetainedLog) (old : ClerkView) (new : List Receipt) (event : Event) (result : Result Reply CallFault) → Admits (call_fault (seen_by old) log) result → IfOk result (RecordsEvent t log after old.receipts new event)
     → IfOk result (Keeps old.receipts new event)
-keeps_call t log after old new event (Err fault) free is = tt
-keeps_call t log after old new event (Ok reply) free is = keeps t log after old new event reply free is
+keeps_call t log after old new event result free is = grind (arith, keeps t log after old new event)
 
 pub keeps_judged : (t : RuleTable) (log after : RetainedLog) (old : ClerkView) (new : List Receipt) (event : Event) (workers : ℕ) (result : Result Reply StepFault) → AdmitsStep (call_fault (seen_by old) log) workers result → IfOk result (RecordsEvent t log after old.receipts new event)
     → IfOk result (Keeps old.receipts new event)
-keeps_judged t log after old new event workers (Err fault) free is = tt
-keeps_judged t log after old new event workers (Ok reply) free is = keeps t log after old new event reply free.0 is
+keeps_judged t log after old new event workers result free is = grind (arith, keeps t log after old new event)
 
 pub some_workers : {A : Type 0} (found : Option CallFault) (workers : ℕ) (result : Result A StepFault) → AdmitsStep found workers result → OnOk result (0 < workers)
-some_workers found workers (Ok answer) is = is.1
-some_workers found workers (Err fault) is = tt
+some_workers found workers result is = grind arith
 
 -- a step that was recorded is kept
 pub keeps_step : (t : RuleTable) (log after : RetainedLog) (old new : ClerkView) (Same : Type 0) (result : Result (Option Reply) CallFault) → Admits (call_fault (seen_by old) log) result

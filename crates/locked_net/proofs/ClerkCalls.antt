@@ -1,28 +1,7 @@
 -- A clerk's call, from the call that it makes.
-use Rattle.locked_net.proofs.Prelude.{◌≡◌, ◌∷◌, ◌++◌, [], Option, None, Some, Result, Ok, Err, refl, sym, ap, subst, arith, ◌∙◌, IsSomeAnd, Event, Reply, RuleTable, Book, PublishedLog, kept_with, next_receipt, ClerkView, noted, seen_by, PublishedJournalView, KeepsKey, call_fault, each, some_of, ClerkCall, HeldCall}
+use Rattle.locked_net.proofs.Prelude.{◌≡◌, ◌∷◌, ◌++◌, [], Option, None, Some, Result, Ok, sym, ap, subst, arith, ◌∙◌, IsSomeAnd, Event, Reply, RuleTable, Book, PublishedLog, kept_with, next_receipt, ClerkView, noted, seen_by, PublishedJournalView, KeepsKey, call_fault, each, ClerkCall, HeldCall}
 use Rattle.locked_net.proofs.ReceiptAddition.{front_after, seen_few}
 use Rattle.locked_net.proofs.ChosenEvents.{begins_in}
-
-same_key : (before : PublishedJournalView) → KeepsKey before before
-same_key before = record { nodes = refl; present = refl; begun = refl; limit = refl; name = refl; base = refl; counts = refl; from = refl }
-
--- a call that failed and changed nothing
-pub failed : {A E : Type 0} (Answers : A → Type 0 → Type 0 → Type 0) (held : PublishedJournalView) (clerk : ClerkView) (fault : E) → HeldCall Answers held held clerk clerk (Err fault)
-failed Answers held clerk fault = record {
-  clerk = record { base = refl; added = tt; kept = refl };
-  key = same_key held;
-  begins = tt;
-  kept = refl;
-}
-
--- a call that recorded nothing
-pub idle : {A E : Type 0} (held : PublishedJournalView) (clerk : ClerkView) → HeldCall {A = Option A} {E = E} some_of held held clerk clerk (Ok None)
-idle held clerk = record {
-  clerk = record { base = refl; added = refl; kept = tt };
-  key = same_key held;
-  begins = refl;
-  kept = tt;
-}
 
 -- an entry was recorded, and the clerk has its receipt and a note of the log then
 pub recorded_call : {E : Type 0} (t : RuleTable) (before after : PublishedJournalView) (old new : ClerkView) (event : Event) (reply : Reply) (told : PublishedLog)

@@ -8,7 +8,7 @@ none_begins None other none = inl (other, refl)
 none_begins (Some told) other none = absurd (none told refl)
 
 pub none_follows : {A : Type 0} (found : Option A) (Has : A → Type 0) (note : Option PublishedLog) (other : List Entry) → ((a : A) → found ≡ Some a → ⊥) → MatchOption found (note ≡ None) Has → AreComparable other (noted note)
-none_follows None Has note other none is = subst (λ (o : Option PublishedLog). AreComparable other (noted o)) (sym is) (inr (other, refl))
+none_follows None Has note other none is = rw is (inr (other, refl))
 none_follows (Some a) Has note other none is = absurd (none a refl)
 
 -- ---- the log

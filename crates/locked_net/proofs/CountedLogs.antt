@@ -113,10 +113,6 @@ counted_after t table log new event from counting counted (Err fault) was is cou
 
 -- ---- a published journal
 
--- before any entry
-pub counted_begun : (t : RuleTable) (kept : RetainedLog) (board : BoardView) (counting : Option RoundCount) → board.list ≡ [] → IsCountedLog t (log_over kept board) None counting
-counted_begun t kept board counting none = counted_before t (log_over kept board) counting none
-
 -- counting begins
 pub counting_here : (t : RuleTable) (held after : JournalView) (board : BoardView) (number : ℕ) → IsPublishedJournal t (kept_of held) board → number ≡ last_number (kept_of held) → after ≡ counting_journal t held
     → IsPublishedJournal t (kept_of after) board × IsCountedLog t (log_over (kept_of after) board) (Some number) after.counting
@@ -145,11 +141,7 @@ counted_recorded {A = A} {E = E} t table held ready after board now receipt from
     told (same_log result same) (replied result counted) stays
   where
     same_log : (r : Result A E) → OnErr r ((kept_of after ≡ kept_of ready) × (now.list ≡ board.list)) → OnErr r (log_over (kept_of after) now ≡ log_over (kept_of ready) board)
-    same_log (Ok answer) same = tt
-    same_log (Err fault) same =
-        ap (λ (k : RetainedLog). log_over k now) same.0
-        ∙ ap₂ (λ (es : List Entry) (n : BoardName). log_over (kept_of ready) (record { list = es; posted = []; name = n })) same.1 named
+    same_log r same = grind arith
 
     replied : (r : Result A E) → OnOk r (after.counting ≡ next_counting t receipt.reply after.state ready.counting) → OnOk r (after.counting ≡ next_counting t (reply_of t ready.state ready.spent receipt.event) after.state ready.counting)
-    replied (Ok answer) counted = counted ∙ ap (λ (r : Receipt). next_counting t r.reply after.state ready.counting) next
-    replied (Err fault) counted = tt
+    replied r counted = grind arith

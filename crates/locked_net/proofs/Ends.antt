@@ -1,11 +1,10 @@
 -- Rows of clerks that roamed in two parts.
-use Rattle.locked_net.proofs.Prelude.{◌≡◌, ◌∙◌, ℕ, List, [], ◌∷◌, ◌++◌, Option, None, Some, refl, sym, ap, subst, option_or, Book, Setting, CallFault, ClerkView, AllEnd, AllKeepNotes, EndsOnLog}
+use Rattle.locked_net.proofs.Prelude.{◌≡◌, ◌∙◌, ℕ, List, [], ◌∷◌, ◌++◌, Option, None, Some, refl, sym, ap, subst, arith, option_or, Book, Setting, CallFault, ClerkView, AllEnd, AllKeepNotes, EndsOnLog}
 use Rattle.locked_net.specs.RoamResults.{FirstFault}
 use Rattle.locked_net.proofs.Turns.{stays}
 
 or_assoc : {A : Type 0} (a b c : Option A) → option_or (option_or a b) c ≡ option_or a (option_or b c)
-or_assoc None b c = refl
-or_assoc (Some x) b c = refl
+or_assoc a b c = grind arith
 
 pub faults_joined : {A : Type 0} (Ends : A → ClerkView → Option CallFault → Type 0) (xs more : List A) (news others : List ClerkView) (fault other : Option CallFault)
     → FirstFault Ends xs news fault → FirstFault Ends more others other → FirstFault Ends (xs ++ more) (news ++ others) (option_or fault other)

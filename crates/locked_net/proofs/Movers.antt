@@ -1,6 +1,6 @@
 -- The step of an enabled node alone, with no wish, is answered by its one move. Its node is present and has a
 -- rule, there is one item, and no target is wished. So nothing refuses it, and its own move is the only one.
-use Rattle.locked_net.proofs.Prelude.{◌≡◌, ℕ, ◌%◌, true, false, ◌&&◌, [], ◌∷◌, length, Option, None, Some, is_some, nat_lt, if◌then◌else◌, refl, sym, ap, ◌∙◌, option_or, true≢false, cond-false, get_or_from_slice_get, slice_get_within, Act, Item, Moved, Absent, NotCentral, Moves, present, State, RuleTable, rule_at, enabled_names, least_target, step_refusal, items_refusal, item_refusal, move_in, outcome_of, outcome_at, least_moves, reply_of, reply_by, one_least, mover, lone_items, lone_step}
+use Rattle.locked_net.proofs.Prelude.{◌≡◌, ℕ, ◌%◌, true, false, ◌&&◌, [], ◌∷◌, length, Option, None, Some, is_some, nat_lt, if◌then◌else◌, refl, sym, ap, ◌∙◌, option_or, true≢false, cond-false, Act, Item, Moved, Absent, NotCentral, Moves, present, State, RuleTable, rule_at, enabled_names, least_target, step_refusal, items_refusal, item_refusal, move_in, outcome_of, outcome_at, least_moves, reply_of, reply_by, one_least, mover, lone_items, lone_step}
 use Rattle.locked_net.proofs.DaemonSteps.{enabled_at, taken_by, few_alone}
 
 -- the move of a node by its rule
@@ -44,5 +44,5 @@ pub mover_answers : (t : RuleTable) (s : State) (turn v spent : ℕ) → mover t
 mover_answers t s turn v spent moves =
     let enabled = enabled_names t s in
     let place = turn % length enabled in
-    let own = enabled_at t s place v (slice_get_within enabled place v moves) (get_or_from_slice_get enabled place v v moves) in
+    let own = enabled_at t s place v moves in
     by_rule t s v spent (rule_at t s v) own.has refl own.rule

@@ -1,40 +1,22 @@
 -- A clerk that adds the receipt of an entry after all that it has seen, and a note of the log then, is a
 -- clerk.
-use Rattle.locked_net.proofs.Prelude.{◌≡◌, ℕ, ◌+◌, ◌-◌, ◌<◌, ◌≤◌, Bool, true, false, List, [], ◌∷◌, ◌++◌, length, Option, None, Some, if◌then◌else◌, nat_eq, nat_lt, refl, sym, ap, ◌∙◌, subst, arith, length-append, slice_get, ltb-false, le-ltb, none-some, slice_get-get_or, get_or-append_seam, Event, RuleTable, Entry, PublishedLog, Receipt, dropped, RetainedLog, last_number, next_entry, kept_with, next_receipt, ClerkView, front_from, front_of, seen_by, RiseAbove, IsReceiptOf, StandsLastFrom, StandsLast, NotesLast, IsClerk, CallFault, Behind, LogFull, call_fault, checkpoint_fault}
-
-not_first : (b : Bool) (fault : CallFault) (other : Option CallFault) → (if b then Some fault else other) ≡ None → b ≡ false
-not_first true fault other e = absurd (none-some fault (sym e))
-not_first false fault other e = refl
+use Rattle.locked_net.proofs.Prelude.{◌≡◌, ℕ, ◌+◌, ◌-◌, ◌<◌, ◌≤◌, List, [], ◌∷◌, ◌++◌, length, Option, None, Some, if◌then◌else◌, nat_eq, nat_lt, refl, sym, ap, ◌∙◌, subst, arith, nat_tests, length-append, slice_get, ltb-false, le-ltb, none-some, slice_get-get_or, get_or-append_seam, Event, RuleTable, Entry, PublishedLog, Receipt, dropped, RetainedLog, last_number, next_entry, kept_with, next_receipt, ClerkView, front_from, front_of, seen_by, RiseAbove, IsReceiptOf, StandsLastFrom, StandsLast, NotesLast, IsClerk, CallFault, Behind, LogFull, call_fault, checkpoint_fault}
 
 -- a clerk that may call has seen at most all entries
 pub seen_few : (seen : ℕ) (log : RetainedLog) → call_fault seen log ≡ None → seen ≤ last_number log
-seen_few seen log none =
-    ltb-false (last_number log) seen (not_first (nat_lt (last_number log) seen) (Behind (last_number log) seen) (if nat_eq (last_number log) log.limit then Some LogFull else None) none)
+seen_few seen log none = grind (arith, nat_tests)
 
 -- and the same before a checkpoint
 pub seen_at_checkpoint : (seen : ℕ) (log : RetainedLog) → checkpoint_fault seen log ≡ None → seen ≤ last_number log
-seen_at_checkpoint seen log none = ltb-false (last_number log) seen (not_first (nat_lt (last_number log) seen) (Behind (last_number log) seen) None none)
+seen_at_checkpoint seen log none = grind (arith, nat_tests)
 
 -- which has no fault either with less seen
 pub less_at_checkpoint : (less seen : ℕ) (log : RetainedLog) → less ≤ seen → checkpoint_fault seen log ≡ None → checkpoint_fault less log ≡ None
-less_at_checkpoint less seen log few none =
-    let here = last_number log in
-    let all : seen ≤ here = seen_at_checkpoint seen log none in
-    let low : nat_lt here less ≡ false = le-ltb here less (omega (arith, few, all)) in
-    subst (λ (b : Bool). (if b then Some (Behind here less) else None) ≡ None) (sym low) refl
+less_at_checkpoint less seen log few none = grind (arith, nat_tests)
 
 -- and may call with less seen
-not_second : (b : Bool) (fault : CallFault) (other : Option CallFault) → (if b then Some fault else other) ≡ None → other ≡ None
-not_second true fault other e = absurd (none-some fault (sym e))
-not_second false fault other e = e
-
 less_seen : (less seen : ℕ) (log : RetainedLog) → less ≤ seen → call_fault seen log ≡ None → call_fault less log ≡ None
-less_seen less seen log few none =
-    let here = last_number log in
-    let rest : Option CallFault = if nat_eq here log.limit then Some LogFull else None in
-    let all : seen ≤ here = seen_few seen log none in
-    let low : nat_lt here less ≡ false = le-ltb here less (omega (arith, few, all)) in
-    subst (λ (b : Bool). (if b then Some (Behind here less) else rest) ≡ None) (sym low) (not_second (nat_lt here seen) (Behind here seen) rest none)
+less_seen less seen log few none = grind (arith, nat_tests)
 
 pub front_free : (clerk : ClerkView) (log : RetainedLog) → call_fault (seen_by clerk) log ≡ None → call_fault (front_of clerk.receipts) log ≡ None
 front_free clerk log = less_seen (front_of clerk.receipts) (seen_by clerk) log (omega arith)

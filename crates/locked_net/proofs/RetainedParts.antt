@@ -1,6 +1,6 @@
 -- What is kept of a whole log: the number of its last entry, the next receipt, and that it stays a part of the
 -- log after the next entry and after a checkpoint.
-use Rattle.locked_net.proofs.Prelude.{◌≡◌, ℕ, ◌+◌, ◌<◌, ⊎_elim, inl, inr, List, [], ◌∷◌, ◌++◌, length, Option, Some, None, refl, sym, ap, ap₂, ◌∙◌, subst, append_assoc, length-append, arith, append-nil, Event, State, IsState, RuleTable, reply_of, state_after, spent_by, Entry, Moment, Run, Base, dropped, base_of, IsTable, least_answers, opening_is_state, runs_end_in_states, run_add, runs_keep_size, StartsAt, RetainedLog, checkpointed, kept_with, last_number, moment_in, next_entry, IsWholeLog, IsLogAboveBase, TellsEnd}
+use Rattle.locked_net.proofs.Prelude.{◌≡◌, ℕ, ◌+◌, ◌<◌, inl, inr, List, [], ◌∷◌, ◌++◌, length, Option, Some, None, refl, sym, ap, ap₂, ◌∙◌, subst, append_assoc, length-append, arith, append-nil, Event, State, IsState, RuleTable, reply_of, state_after, spent_by, Entry, Moment, Run, Base, dropped, base_of, IsTable, least_answers, opening_is_state, runs_end_in_states, run_add, runs_keep_size, StartsAt, RetainedLog, checkpointed, kept_with, last_number, moment_in, next_entry, IsWholeLog, IsLogAboveBase, TellsEnd}
 
 -- the number of the last entry of the log is that of what is kept
 pub above_len : (t : RuleTable) (log kept : RetainedLog) → IsLogAboveBase t log kept → last_number log ≡ last_number kept
@@ -49,12 +49,9 @@ recorded_is_log t table log is below event =
 
 tells_more : (t : RuleTable) (log : RetainedLog) (after : State) (spent : ℕ) (entries below : List Entry) (base : Option Base) → after.network.size ≡ log.state.network.size → TellsEnd t log below base
     → TellsEnd t (record log { state = after; spent = spent; entries = entries }) below base
-tells_more t log after spent entries below base size tells =
-    ⊎_elim
-    (λ (none : (below ≡ []) × (base ≡ log.base)). inl none)
-    (λ (some : (start : Moment) × (m : Moment) × StartsAt t log.state.network.size log.present log.base start × Run t start below m × (base ≡ Some (base_of (dropped log.base + length below) m))).
-    inr (some.0, some.1, subst (λ (n : ℕ). StartsAt t n log.present log.base some.0) (sym size) some.2, some.3, some.4))
-    tells
+tells_more t log after spent entries below base size (inl none) = inl none
+tells_more t log after spent entries below base size (inr (start, m, starts, run, is)) =
+    inr (start, m, subst (λ (n : ℕ). StartsAt t n log.present log.base start) (sym size) starts, run, is)
 
 pub recorded_above : (t : RuleTable) → IsTable t → (log kept : RetainedLog) → IsWholeLog t log → IsLogAboveBase t log kept → (event : Event) → IsLogAboveBase t (kept_with t log event) (kept_with t kept event)
 recorded_above t table log kept is above event =

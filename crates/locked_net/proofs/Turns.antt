@@ -75,13 +75,9 @@ ends_apart setting shown turns old mid after fault is apart ended =
 
 -- which has a note
 pub has_note : {A : Type 0} (found : Option A) (b : Bool) (held : Option PublishedLog) (log_of : A → PublishedLog) → MatchOption found (held ≡ None) (λ a. held ≡ Some (log_of a)) → is_some found ≡ not b → b ≡ false → held ≡ None → ⊥
-has_note None b held log_of is known off none = absurd (false≢true (known ∙ ap not off))
-has_note (Some a) b held log_of is known off none = none-some (log_of a) (sym none ∙ is)
+has_note found b held log_of is known off none = grind arith
 
 -- ---- notes and bases
-
-noted_still : (book : Book) (old new : ClerkView) → new.note ≡ old.note → HasNoteOf book old → HasNoteOf book new
-noted_still book old new same has = subst (λ (o : Option PublishedLog). IsSomeAnd o (λ told. told.book ≡ book)) (sym same) has
 
 turn_above : (t : RuleTable) (log : RetainedLog) (clerk : ClerkView) (chosen : Option ℕ) → fault_by (seen_by clerk) log chosen ≡ None → All (λ receipt. base_from clerk.base < receipt.seq) (receipts_by t log chosen)
 turn_above t log clerk None free = All-nil (λ receipt. base_from clerk.base < receipt.seq)
@@ -90,72 +86,37 @@ turn_above t log clerk (Some v) free =
     let few = seen_few (seen_by clerk) log free in
     All-cons P (next_receipt t log (lone_step v)) [] (omega (arith, few)) (All-nil P)
 
--- the note is as it was, or of the board
-abbrev IsNoteKept : Book → ClerkView → ClerkView → Type 0
-IsNoteKept book old new = (new.note ≡ old.note) ⊎ HasNoteOf book new
-
-note_stays : (book : Book) (old new : ClerkView) → new ≡ old → IsNoteKept book old new
-note_stays book old new same = inl (ap (λ (c : ClerkView). c.note) same)
-
 pub stays : (book : Book) (old new : ClerkView) → new ≡ old → KeepsNote book old new
 stays book old new same = record {
-  note = note_stays book old new same;
+  note = inl (ap (λ (c : ClerkView). c.note) same);
   base = ap (λ (c : ClerkView). c.base) same;
   above = ([], ap (λ (c : ClerkView). c.receipts) same ∙ sym (append-nil old.receipts), All-nil (λ receipt. base_from old.base < receipt.seq));
 }
-
-noted_turn : (book : Book) (old new : ClerkView) {A : Type 0} (told : Option A) → MatchOption told (new ≡ old) (λ _. AddsReceipt book old new) → IsNoteKept book old new
-noted_turn book old new None same = note_stays book old new same
-noted_turn book old new (Some a) adds = inr adds.note
 
 -- a turn under a lock that was taken for it
 pub turn_keeps : {A : Type 0} (t : RuleTable) (book : Book) (turn : ℕ) (before after : PublishedJournalView) (old new : ClerkView) (result : Result (Option A) CallFault) → before.name.book ≡ book
     → HeldCall some_of before after old new result → OnOk result (fault_of_turn t (seen_by old) before.log turn ≡ None) → OnOk result (new.receipts ≡ old.receipts ++ receipts_of_turn t before.log turn) → KeepsNote book old new
 turn_keeps t book turn before after old new (Err fault) same call free added = stays book old new call.clerk.kept
 turn_keeps t book turn before after old new (Ok told) same call free added = record {
-  note = subst (λ (b : Book). IsNoteKept b old new) same (noted_turn before.name.book old new told call.clerk.added);
+  note = let added = call.clerk.added in grind arith;
   base = call.clerk.base;
   above = (receipts_of_turn t before.log turn, added, turn_above t before.log old (mover t before.log.state turn) free);
 }
 
 -- a clerk that a turn changed has a note of the board
 pub turn_own : {A : Type 0} (book : Book) (before after : PublishedJournalView) (old new : ClerkView) (result : Result (Option A) CallFault) → before.name.book ≡ book → HeldCall some_of before after old new result → (new ≡ old) ⊎ HasNoteOf book new
-turn_own book before after old new (Err fault) same call = inl call.clerk.kept
-turn_own book before after old new (Ok None) same call = inl call.clerk.added
-turn_own book before after old new (Ok (Some reply)) same call = inr (subst (λ (b : Book). HasNoteOf b new) same call.clerk.added.note)
+turn_own book before after old new result same call = grind arith
 
 -- the same after several turns
 pub own_on : (book : Book) (old mid new : ClerkView) → (mid ≡ old) ⊎ HasNoteOf book mid → (new ≡ mid) ⊎ HasNoteOf book new → (new ≡ old) ⊎ HasNoteOf book new
-own_on book old mid new so_far (inl same) = subst (λ (c : ClerkView). (c ≡ old) ⊎ HasNoteOf book c) (sym same) so_far
-own_on book old mid new so_far (inr has) = inr has
-
--- a note may be shown to a clerk whose note is of the board, or that has none
-pub may_show : (book : Book) (old new : ClerkView) → HasOwnNote old new → (new ≡ old) ⊎ HasNoteOf book new → IsOfBook book new
-may_show book old new (inl none) (inl same) = subst (λ (o : Option PublishedLog). IfSome o (λ told. told.book ≡ book)) (sym (ap (λ (c : ClerkView). c.note) same ∙ none)) tt
-may_show book old new (inr more) (inl same) = let size : length new.receipts ≡ length old.receipts = ap (λ (c : ClerkView). length c.receipts) same in absurd (omega (arith, more, size))
-may_show book old new known (inr has) = of_book new.note has
-  where
-    of_book : (note : Option PublishedLog) → IsSomeAnd note (λ told. told.book ≡ book) → IfSome note (λ told. told.book ≡ book)
-    of_book None has = tt
-    of_book (Some told) has = has
+own_on book old mid new so_far last = grind arith
 
 -- one more turn
-note_kept_on : (book : Book) (old mid new : ClerkView) → IsNoteKept book old mid → IsNoteKept book mid new → IsNoteKept book old new
-note_kept_on book old mid new so_far last =
-    ⊎_elim
-    (λ (same : new.note ≡ mid.note).
-    ⊎_elim
-    (λ (first : mid.note ≡ old.note). inl (same ∙ first))
-    (λ (has : HasNoteOf book mid). inr (noted_still book mid new same has))
-    so_far)
-    (λ (has : HasNoteOf book new). inr has)
-    last
-
 pub keeps_on : (book : Book) (old mid new : ClerkView) → KeepsNote book old mid → KeepsNote book mid new → KeepsNote book old new
 keeps_on book old mid new so_far last =
     let P = λ (receipt : Receipt). base_from old.base < receipt.seq in
     record {
-      note = note_kept_on book old mid new so_far.note last.note;
+      note = let first = so_far.note in let then = last.note in grind arith;
       base = last.base ∙ so_far.base;
       above = (
         so_far.above.0 ++ last.above.0,
@@ -163,16 +124,6 @@ keeps_on book old mid new so_far last =
         All-append P so_far.above.0 last.above.0 so_far.above.2 (subst (λ base. All (λ (receipt : Receipt). base_from base < receipt.seq) last.above.0) so_far.base last.above.2),
       );
     }
-
--- a clerk that sees a note of this history after its turns
-pub keeps_shown : (book : Book) (seen : Option PublishedLog) (old mid new : ClerkView) → KeepsNote book old mid → IfSome seen (λ told. told.book ≡ book) → MatchOption seen (new ≡ mid) (λ told. HasNoteOf told.book new) → new.receipts ≡ mid.receipts → new.base ≡ mid.base
-    → KeepsNote book old new
-keeps_shown book seen old mid new so_far own shown receipts base =
-    record { note = note_shown seen own shown; base = base ∙ so_far.base; above = (so_far.above.0, receipts ∙ so_far.above.1, so_far.above.2) }
-  where
-    note_shown : (seen : Option PublishedLog) → IfSome seen (λ told. told.book ≡ book) → MatchOption seen (new ≡ mid) (λ told. HasNoteOf told.book new) → IsNoteKept book old new
-    note_shown None own same = subst (λ (c : ClerkView). IsNoteKept book old c) (sym same) so_far.note
-    note_shown (Some told) own has = inr (subst (λ (b : Book). HasNoteOf b new) own has)
 
 -- without a note, what it shows begins what any note shows
 pub nothing_shown : (seen held : Option PublishedLog) → ((told : PublishedLog) → seen ≡ Some told → ⊥) → IsPrefix (noted seen) (noted held)

@@ -142,6 +142,11 @@ FirstFault Ends xs clerks fault = ⊥
 abbrev pub AllEnd : Setting → ℕ → List ClerkView → List ClerkView → Option CallFault → Type 0
 AllEnd setting turns = FirstFault (EndsOnLog setting turns)
 
+-- Each of the first 64 clerks roamed, and this is the first fault; all other clerks are unchanged.
+pub record RowEnds (setting : Setting) (turns : ℕ) (olds news : List ClerkView) (fault : Option CallFault) : Type 0 where
+  pub ends : AllEnd setting turns (take 64 olds) (take 64 news) fault
+  pub others : drop 64 news ≡ drop 64 olds
+
 -- a call's fault as a fault of roaming
 abbrev pub roam_fault : CallFault → RoamFault
 roam_fault (call_fault.Behind front seen) = Behind front seen

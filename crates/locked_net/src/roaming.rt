@@ -2,7 +2,7 @@
 
 ghost use Rattle.std.specs.Prelude.{◌≡◌, ◌↔◌, [], take, IfErr, OnOk, IsErrOf, ◌⊎◌, IfSome, MatchOption, OnErr, ◌+◌, ◌<◌, ◌^◌, length};
 ghost use Rattle.locked_net.specs.Nets.{book_of, setting_of};
-ghost use Rattle.locked_net.specs.RoamResults.{AllEnd, RoamResult, AllTakeTurns, AllKeepNotes, MayMeetRoamFault, roam_call_fault, EndsOnLog, KeepsNote, TakesTurn, MeetsFault, MayEnd};
+ghost use Rattle.locked_net.specs.RoamResults.{AllEnd, RoamResult, AllTakeTurns, AllKeepNotes, MayMeetRoamFault, roam_call_fault, EndsOnLog, KeepsNote, TakesTurn, MeetsFault, MayEnd, RowEnds};
 ghost use Rattle.locked_net.specs.declared.fault.RoamFault.TheVariants.{ZeroWorkers};
 ghost use Rattle.std.specs.Result.{result_err};
 ghost use mathlib.Core.List.{IsPrefix};
@@ -172,6 +172,20 @@ fn roam_halves<R: Rules + Send, G: Gate + Sync, T: Threads + Wait + Sync>(
     )
 }
 
+/// Lets the first 64 of these clerks roam. Returns the first fault in clerks' order.
+fn roam_row<R: Rules + Send, G: Gate + Sync, T: Threads + Wait + Sync>(
+    rt: &T,
+    config: &RoamConfig<R, G>,
+    clerks: &mut [Clerk],
+) -> Option<CallFault>
+    ensures row { RowEnds (setting_of R.table config.now.net.now) config.now.turns clerks.old clerks.new result }
+    ensures notes { AllKeepNotes (book_of config.now.net.now) clerks.old clerks.new }
+{
+    let workers = clerks.len().min(MAX_WORKERS);
+    let (ours, _) = clerks.split_at_mut(workers);
+    roam_all(rt, config, 0, ours)
+}
+
 /// Lets the first 64 of these clerks roam, each by its own worker, at once if threads are available.
 /// Turns and workers are numbered from 0. In each turn a worker passes the gate, with the worker's number
 /// and the turn's. Then, under one hold of the network's lock, the worker records a step of one node to the
@@ -210,9 +224,7 @@ pub fn roam<R: Rules + Send, G: Gate + Sync, T: Threads + Wait + Sync>(
         return Err(RoamFault::ZeroWorkers);
     }
     let config = RoamConfig { net, gate, turns };
-    let workers = clerks.len().min(MAX_WORKERS);
-    let (ours, _) = clerks.split_at_mut(workers);
-    match roam_all(rt, &config, 0, ours) {
+    match roam_row(rt, &config, clerks) {
         Some(fault) => Err(RoamFault::from(fault)),
         None => Ok(()),
     }

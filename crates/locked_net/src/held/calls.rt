@@ -25,6 +25,14 @@ use std::thread::Threads;
 use steal_pool::{Gate, evaluate};
 
 impl<R: Rules> HeldNet<'_, R> {
+    /// Whether the clerk may call now; the error is the fault that each call finds before it takes memory.
+    pub fn may_call(&self, clerk: &Clerk) -> Result<(), CallFault>
+        ensures free { OnOk result (call_fault (seen_by clerk.now) self.now.log ≡ None) }
+        ensures fault { IfErr result (λ fault. call_fault (seen_by clerk.now) self.now.log ≡ Some fault) }
+    {
+        clerk.may_call(&self.published)
+    }
+
     /// Carries out an event: `Clerk::call` under a held lock, with the same faults in the same order.
     pub fn call<W: Wait>(
         &mut self,
@@ -37,7 +45,22 @@ impl<R: Rules> HeldNet<'_, R> {
         ensures counting { IfOk result (λ reply. self.new.counting ≡ next_counting R.table reply self.new.log.state self.old.counting) }
         ensures admitted { Admits (call_fault (seen_by clerk.old) self.old.log) result }
     {
-        clerk.may_call(&self.published)?;
+        self.may_call(clerk)?;
+        self.record(rt, clerk, event)
+    }
+
+    fn record<W: Wait>(
+        &mut self,
+        rt: &W,
+        clerk: &mut Clerk,
+        event: Event,
+    ) -> Result<Reply, CallFault>
+        requires { call_fault (seen_by clerk.old) self.old.log ≡ None }
+        ensures recorded { IfOk result (RecordsEvent R.table self.old.log self.new.log clerk.old.receipts clerk.new.receipts event) }
+        ensures call { HeldCall each self.old self.new clerk.old clerk.new result }
+        ensures counting { IfOk result (λ reply. self.new.counting ≡ next_counting R.table reply self.new.log.state self.old.counting) }
+        ensures fault { IfErr result (λ fault. fault ≡ Memory) }
+    {
         clerk.record_on(rt, &mut self.published, event, None)
     }
 
@@ -57,14 +80,9 @@ impl<R: Rules> HeldNet<'_, R> {
         ensures admitted { Admits (call_fault (seen_by clerk.old) self.old.log) result }
         ensures unasked { IfErr result (λ fault. (fault ≢ Memory) → daemon.new ≡ daemon.old) }
     {
-        clerk.may_call(&self.published)?;
-        match daemon.choose(self.published.net().enabled(), R::CENTRAL)? {
-            Some(choice) => Ok(Some(clerk.record_on(
-                rt,
-                &mut self.published,
-                Event::Step(choice),
-                None,
-            )?)),
+        self.may_call(clerk)?;
+        match daemon.choose(self.net().enabled(), R::CENTRAL)? {
+            Some(choice) => Ok(Some(self.record(rt, clerk, Event::Step(choice))?)),
             None => Ok(None),
         }
     }
@@ -86,9 +104,9 @@ impl<R: Rules> HeldNet<'_, R> {
         ensures admitted { Admits (call_fault (seen_by clerk.old) self.old.log) result }
         ensures unasked { IfErr result (λ fault. (fault ≢ Memory) → injector.new ≡ injector.old) }
     {
-        clerk.may_call(&self.published)?;
-        match injector.draw(self.published.net()) {
-            Some(event) => Ok(Some(clerk.record_on(rt, &mut self.published, event, None)?)),
+        self.may_call(clerk)?;
+        match injector.draw(self.net()) {
+            Some(event) => Ok(Some(self.record(rt, clerk, event)?)),
             None => Ok(None),
         }
     }
@@ -149,7 +167,7 @@ impl<R: Rules + Sync> HeldNet<'_, R> {
         ensures counting { IfOk result (λ reply. self.new.counting ≡ next_counting R.table reply self.new.log.state self.old.counting) }
         ensures admitted { AdmitsStep (call_fault (seen_by clerk.old) self.old.log) workers result }
     {
-        clerk.may_call(&self.published)?;
+        self.may_call(clerk)?;
         let verdicts = evaluate(
             rt,
             self.net.alloc(),

@@ -1,4 +1,4 @@
-use Rattle.locked_net.proofs.Prelude.{◌+◌, length, ap, ◌∙◌, dropped, BoardName, ReaderView}
+use Rattle.locked_net.proofs.Prelude.{◌≡◌, ◌+◌, length, ap, ◌∙◌, IsTrue, present, pointer, partner_in, dropped, BoardName, ReaderView}
 use Rattle.locked_net.proofs.BoardReads.{looked, shown_by, absent, shows}
 use Rattle.locked_net.proofs.board_reader.BoardReader.look.Goals as goal
 
@@ -23,17 +23,17 @@ returns-clause-run g c =
 pub returns-clause-present : goal.returns-clause-present
 returns-clause-present g c =
     let some = c.in-Some.ensures in
-    (shown_by g.R.Rules.table _ c.args.self.now c.look.new.self.name c.place.result c.args.v c.look.new.self.list c.in-Some.field-0.found c.in-Some-found.registers c.self.view_is some.kept.1 c.place.ensures.same c.place.ensures.named.0 some.law some.found c.in-Some-found.is).present_is
+    shown_by g.R.Rules.table _ c.args.self.now c.look.new.self.name c.place.result c.args.v c.look.new.self.list c.in-Some.field-0.found c.in-Some-found.registers (λ s. IsTrue (present s.network c.args.v)) c.self.view_is some.kept.1 c.place.ensures.same c.place.ensures.named.0 some.law some.found c.in-Some-found.is (λ s is. is.present_is)
 
 pub returns-clause-pointer : goal.returns-clause-pointer
 returns-clause-pointer g c =
     let some = c.in-Some.ensures in
-    (shown_by g.R.Rules.table _ c.args.self.now c.look.new.self.name c.place.result c.args.v c.look.new.self.list c.in-Some.field-0.found c.in-Some-found.registers c.self.view_is some.kept.1 c.place.ensures.same c.place.ensures.named.0 some.law some.found c.in-Some-found.is).pointer_is
+    shown_by g.R.Rules.table _ c.args.self.now c.look.new.self.name c.place.result c.args.v c.look.new.self.list c.in-Some.field-0.found c.in-Some-found.registers (λ s. c.in-Some-found.registers.0 ≡ pointer s c.args.v) c.self.view_is some.kept.1 c.place.ensures.same c.place.ensures.named.0 some.law some.found c.in-Some-found.is (λ s is. is.pointer_is)
 
 pub returns-clause-partner : goal.returns-clause-partner
 returns-clause-partner g c =
     let some = c.in-Some.ensures in
-    (shown_by g.R.Rules.table _ c.args.self.now c.look.new.self.name c.place.result c.args.v c.look.new.self.list c.in-Some.field-0.found c.in-Some-found.registers c.self.view_is some.kept.1 c.place.ensures.same c.place.ensures.named.0 some.law some.found c.in-Some-found.is).partner_is
+    shown_by g.R.Rules.table _ c.args.self.now c.look.new.self.name c.place.result c.args.v c.look.new.self.list c.in-Some.field-0.found c.in-Some-found.registers (λ s. c.in-Some-found.registers.1 ≡ partner_in s.registers.pointers c.args.v) c.self.view_is some.kept.1 c.place.ensures.same c.place.ensures.named.0 some.law some.found c.in-Some-found.is (λ s is. is.partner_is)
 
 pub returns-clause-front : goal.returns-clause-front
 returns-clause-front g c =

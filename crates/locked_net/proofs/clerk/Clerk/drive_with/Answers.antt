@@ -1,6 +1,7 @@
 use Rattle.locked_net.proofs.Prelude.{ap, BoardName, seen_by, book_of, setting_of, some_of}
 use Rattle.locked_net.proofs.ClerkCalls.{called}
 use Rattle.locked_net.proofs.ChosenEvents.{keeps_step, refuses, takes}
+use Rattle.locked_net.specs.ChosenEvents.{ByDaemon}
 use Rattle.locked_net.proofs.clerk.Clerk.drive_with.Goals as goal
 
 pub returns-clause-call : goal.returns-clause-call
@@ -16,7 +17,7 @@ returns-clause-step g c =
 pub returns-clause-chosen : goal.returns-clause-chosen
 returns-clause-chosen g c =
     let told = c.drive-answer in
-    takes (setting_of g.R.Rules.table c.args.net.now) _ c.hold-held.result told.new.self c.args.self.now told.new.clerk told.result c.hold-held.ensures.own told.ensures.admitted told.ensures.chosen told.ensures.call
+    takes (setting_of g.R.Rules.table c.args.net.now) (λ _. ByDaemon g.D.Daemon.chooses g.R.Rules.table c.args.daemon.now told.new.daemon) c.hold-held.result told.new.self c.args.self.now told.new.clerk told.result c.hold-held.ensures.own told.ensures.admitted told.ensures.chosen told.ensures.call
 
 pub returns-clause-refused : goal.returns-clause-refused
 returns-clause-refused g c =

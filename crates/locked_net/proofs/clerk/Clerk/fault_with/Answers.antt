@@ -1,6 +1,7 @@
-use Rattle.locked_net.proofs.Prelude.{ap, BoardName, seen_by, book_of, setting_of, some_of}
+use Rattle.locked_net.proofs.Prelude.{ap, IsNone, ◌≡◌, ◌↔◌, node_count, BoardName, seen_by, book_of, setting_of, some_of}
 use Rattle.locked_net.proofs.ClerkCalls.{called}
 use Rattle.locked_net.proofs.ChosenEvents.{finds_none, keeps_fault, refuses, takes}
+use Rattle.locked_net.specs.ChosenEvents.{ByInjector}
 use Rattle.locked_net.proofs.clerk.Clerk.fault_with.Goals as goal
 
 pub returns-clause-call : goal.returns-clause-call
@@ -16,12 +17,13 @@ returns-clause-register g c =
 pub returns-clause-drawn : goal.returns-clause-drawn
 returns-clause-drawn g c =
     let told = c.fault-answer in
-    takes (setting_of g.R.Rules.table c.args.net.now) _ c.hold-held.result told.new.self c.args.self.now told.new.clerk told.result c.hold-held.ensures.own told.ensures.admitted told.ensures.drawn told.ensures.call
+    takes (setting_of g.R.Rules.table c.args.net.now) (λ _. ByInjector g.G.Rng.stream g.R.Rules.table c.args.injector.now told.new.injector) c.hold-held.result told.new.self c.args.self.now told.new.clerk told.result c.hold-held.ensures.own told.ensures.admitted told.ensures.drawn told.ensures.call
 
 pub returns-clause-none : goal.returns-clause-none
 returns-clause-none g c =
     let told = c.fault-answer in
-    finds_none (setting_of g.R.Rules.table c.args.net.now) _ c.hold-held.result told.new.self c.args.self.now told.new.clerk told.result c.hold-held.ensures.own told.ensures.admitted told.ensures.drawn told.ensures.none told.ensures.call
+    takes (setting_of g.R.Rules.table c.args.net.now) (λ answer s _. IsNone answer ↔ (node_count s.network ≡ 0)) c.hold-held.result told.new.self c.args.self.now told.new.clerk told.result c.hold-held.ensures.own told.ensures.admitted
+    (finds_none g.R.Rules.table c.hold-held.result.log _ c.args.self.now.receipts told.new.clerk.receipts told.result told.ensures.drawn told.ensures.none) told.ensures.call
 
 pub returns-clause-refused : goal.returns-clause-refused
 returns-clause-refused g c =

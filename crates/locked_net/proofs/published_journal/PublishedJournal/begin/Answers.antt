@@ -1,8 +1,8 @@
-use Rattle.locked_net.proofs.Prelude.{◌≡◌, ◌+◌, ◌∙◌, ℕ, [], ap, sym, subst, Option, Base, BoardShape, IsRun, kept_of}
+use Rattle.locked_net.proofs.Prelude.{◌≡◌, ◌+◌, ◌∙◌, ℕ, [], ap, sym, subst, Option, Base, BoardShape, IsRun, kept_of, log_over}
 use Rattle.rule_machine.specs.Network.{Network}
 use Rattle.rule_machine.specs.State.{State}
 use Rattle.locked_net.proofs.JournalPublication.{begun_published, kept_is_whole, none_is_run}
-use Rattle.locked_net.proofs.CountedLogs.{counted_begun}
+use Rattle.locked_net.proofs.CountedLogs.{counted_before}
 use Rattle.locked_net.proofs.published_journal.PublishedJournal.begin.Goals as goal
 
 abbrev shape : ℕ → ℕ → Option Base → BoardShape
@@ -22,4 +22,4 @@ board_at-requires-clause-law g c =
 pub invariant_of-result : goal.invariant_of-result
 invariant_of-result g c =
     let blank = c.in_ok-board.ensures in
-    (begun_published g.R.Rules.table (kept_of c.args.journal) c.in_ok-board.board (kept_is_whole g.R.Rules.table g.R.Rules.NODE_WEIGHT (kept_of c.args.journal) c.net.ensures.run) c.requires.none (blank.0, blank.1, blank.2 ∙ sym (same_shape g c.before.before.before)), counted_begun g.R.Rules.table (kept_of c.args.journal) c.in_ok-board.board c.args.journal.counting blank.0)
+    (begun_published g.R.Rules.table (kept_of c.args.journal) c.in_ok-board.board (kept_is_whole g.R.Rules.table g.R.Rules.NODE_WEIGHT (kept_of c.args.journal) c.net.ensures.run) c.requires.none (blank.0, blank.1, blank.2 ∙ sym (same_shape g c.before.before.before)), counted_before g.R.Rules.table (log_over (kept_of c.args.journal) c.in_ok-board.board) c.args.journal.counting blank.0)
