@@ -17,12 +17,11 @@ all_turns turns old new roamed fresh = absurd roamed
 all_workers : (turns : ℕ) (old new : List ClerkView) → length old ≤ 64 → RoamResult turns old new → AllRoam turns old new
 all_workers turns old new few roamed =
     let left : length new ≤ 64 = omega (arith, ap length roamed.others, length-drop 64 new, length-drop 64 old) in
-    subst (λ news. AllRoam turns old news) (take_all 64 new left) (subst (λ olds. AllRoam turns olds (take 64 new)) (take_all 64 old few) roamed.workers)
+    rw (take_all 64 old few, take_all 64 new left) at roamed.workers
 
 -- none of them needed a thread
 no_thread : (clerks : List ClerkView) (ended : Result Unit RoamFault) → IfErr ended (λ fault. MayMeetRoamFault clerks fault) → IfErr ended (λ fault. fault ≢ Thread)
-no_thread clerks (Ok done) may_stop = tt
-no_thread clerks (Err fault) may_stop = λ is. rw is at may_stop
+no_thread clerks ended may_stop = grind arith
 
 -- what a clerk did on beginnings of a log, it did on beginnings of a longer one
 end_on : (setting : Setting) (shown more : List Entry) → IsPrefix shown more → (turns : ℕ) (old new : ClerkView) (own : Option CallFault) → MayEnd setting shown turns old new own → MayEnd setting more turns old new own
@@ -33,14 +32,13 @@ end_on setting shown more longer turns old new (Some fault) broken =
 -- none of them had turns or a note before
 fresh_turns : (setting : Setting) (turns : ℕ) (old new : List ClerkView) (fault : Option CallFault) → AllEnd setting turns old new fault → All (λ clerk. clerk ≡ fresh) old → AllRoamedOnNotes setting turns new fault
 fresh_turns setting turns [] [] fault ends fresh_all = ends
-fresh_turns setting turns [] (new ∷ news) fault ends fresh_all = absurd ends
-fresh_turns setting turns (old ∷ olds) [] fault ends fresh_all = absurd ends
 fresh_turns setting turns (old ∷ olds) (new ∷ news) fault (own, others, first, ended, ends) fresh_all =
     let Fresh = λ (clerk : ClerkView). clerk ≡ fresh in
     let is = All-head Fresh old olds fresh_all in
     let longer = ended.begins (inl (ap (λ (c : ClerkView). c.note) is)) in
     let on_note : MayEnd setting (noted new.note) turns old new own = end_on setting ended.shown (noted new.note) longer turns old new own ended.ended in
     (own, others, first, subst (λ (c : ClerkView). MayEnd setting (noted new.note) turns c new own) is on_note, fresh_turns setting turns olds news others ends (All-tail Fresh old olds fresh_all))
+fresh_turns setting turns old new fault ends fresh_all = absurd ends
 
 all_ended : (setting : Setting) (turns : ℕ) (old new : List ClerkView) (fault : Option CallFault) → length old ≤ 64 → length new ≡ length old → All (λ clerk. clerk ≡ fresh) old
     → AllEnd setting turns (take 64 old) (take 64 new) fault → AllRoamedOnNotes setting turns new fault
@@ -52,32 +50,26 @@ all_ended setting turns old new fault few same fresh_all ends =
 no_receipts : (clerks : List ClerkView) → All (λ clerk. clerk ≡ fresh) clerks → All (λ clerk. clerk.receipts ≡ []) clerks
 no_receipts clerks all = All-weaker (λ clerk. clerk ≡ fresh) (λ clerk. clerk.receipts ≡ []) (λ clerk is. ap (λ (c : ClerkView). c.receipts) is) clerks all
 
--- and no base, since they keep it
-all_unbased : (book : Book) (old new : List ClerkView) → All (λ clerk. clerk ≡ fresh) old → AllKeepNotes book old new → All (λ clerk. clerk.base ≡ None) new
-all_unbased book [] [] none keep = All-nil (λ clerk. clerk.base ≡ None)
-all_unbased book (old ∷ olds) (new ∷ news) none (own, keep) =
+-- what follows for each of them from what it keeps
+all_kept : (book : Book) (P : ClerkView → Type 0) → ((old new : ClerkView) → old ≡ fresh → KeepsNote book old new → P new) → (old new : List ClerkView) → All (λ clerk. clerk ≡ fresh) old → AllKeepNotes book old new → All P new
+all_kept book P each [] [] none keep = All-nil P
+all_kept book P each (old ∷ olds) (new ∷ news) none (own, keep) =
     let Fresh = λ (clerk : ClerkView). clerk ≡ fresh in
-    All-cons (λ clerk. clerk.base ≡ None) new news (own.base ∙ ap (λ (c : ClerkView). c.base) (All-head Fresh old olds none)) (all_unbased book olds news (All-tail Fresh old olds none) keep)
-all_unbased book old new none keep = absurd keep
+    All-cons P new news (each old new (All-head Fresh old olds none) own) (all_kept book P each olds news (All-tail Fresh old olds none) keep)
+all_kept book P each old new none keep = absurd keep
 
 pub roamed_afresh : (setting : Setting) (book : Book) (turns : ℕ) (old new : List ClerkView) (ended : Result Unit RoamFault) → length old ≤ 64 → All (λ clerk. clerk ≡ fresh) old
     → RoamResult turns old new → AllEnd setting turns (take 64 old) (take 64 new) (roam_call_fault ended) → (IsErrOf ended ZeroWorkers ↔ (old ≡ [])) → IfErr ended (λ fault. MayMeetRoamFault new fault) → AllKeepNotes book old new
     → RoamResultOfNew setting turns old new ended
 roamed_afresh setting book turns old new ended few new_clerks roamed took none may_stop keep =
     let all = all_turns turns old new (all_workers turns old new few roamed) (no_receipts old new_clerks) in
-    record { as_many = all.0; steps = all.1; ends = all_ended setting turns old new (roam_call_fault ended) few all.0 new_clerks took; unbased = all_unbased book old new new_clerks keep; nobody = none; thread = no_thread new ended may_stop }
+    record { as_many = all.0; steps = all.1; ends = all_ended setting turns old new (roam_call_fault ended) few all.0 new_clerks took; unbased = all_kept book (λ clerk. clerk.base ≡ None) (λ was is none kept. kept.base ∙ ap (λ (c : ClerkView). c.base) none) old new new_clerks keep; nobody = none; thread = no_thread new ended may_stop }
 
 -- so their notes are of the network that they roamed
-one_noted : (book : Book) (old new : ClerkView) → old ≡ fresh → KeepsNote book old new → IsOfBook book new
-one_noted book old new is keeps =
-    ⊎_elim (λ (same : new.note ≡ old.note). rw (same, is) tt) (λ (has : HasNoteOf book new). of_book book new has) keeps.note
-
 pub all_noted : (book : Book) (old new : List ClerkView) → All (λ clerk. clerk ≡ fresh) old → AllKeepNotes book old new → All (IsOfBook book) new
-all_noted book [] [] none keep = All-nil (IsOfBook book)
-all_noted book (old ∷ olds) (new ∷ news) none (own, keep) =
-    let Fresh = λ (clerk : ClerkView). clerk ≡ fresh in
-    All-cons (IsOfBook book) new news (one_noted book old new (All-head Fresh old olds none) own) (all_noted book olds news (All-tail Fresh old olds none) keep)
-all_noted book old new none keep = absurd keep
+all_noted book =
+    all_kept book (IsOfBook book)
+    (λ old new is keeps. ⊎_elim (λ (same : new.note ≡ old.note). rw (same, is) tt) (λ (has : HasNoteOf book new). of_book book new has) keeps.note)
 
 -- ---- beside scripts
 

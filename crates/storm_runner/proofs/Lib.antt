@@ -1,13 +1,10 @@
 pub mod Prelude
 pub mod LogExtension
+pub mod DrawnReceipts
 pub mod TurnAddition
 pub mod ClerkNotes
-pub mod TurnEnds
 pub mod ScriptProgress
 pub mod SplitScripts
 pub mod FreshRoamers
-pub mod EntryOutput
-pub mod NumberOutput
 pub mod Outcomes
 pub mod StormResults
-pub mod LineOutput

@@ -8,22 +8,20 @@ pub use Rattle.std.proofs.lemmas.List.{nil_from_length, take_more, append_cancel
 pub use Rattle.std.proofs.lemmas.List.Elements.{All-nil, All-cons, All-head, All-tail, All-weaker, All-append, All-push}
 pub use Rattle.std.proofs.lemmas.List.Folds.{list_any_more, list_any-append}
 pub use Rattle.std.proofs.lemmas.Option.{slice_get_within, get_or_from_slice_get}
-pub use Rattle.std.proofs.lemmas.Result.{IfOk-weaker}
 pub use Rattle.std.specs.Io.KnownBytes.{Appends}
 pub use Rattle.std.specs.Option.{option_or}
 pub use Rattle.std.specs.Result.{result_err}
 pub use mathlib.Core.List.{IsPrefix}
 pub use Rattle.byte_streams.specs.PartialOutput.{AppendsLess}
-pub use Rattle.daemon.proofs.EmptyDraws.{rests}
 pub use Rattle.daemon.specs.DrawnChoices.{choice_drawn}
 pub use Rattle.line_text.specs.EventText.{IsEvent}
 pub use Rattle.line_text.specs.ReplyText.{IsReply}
 pub use Rattle.line_text.specs.EntryText.{entry_line, entry_lines}
 pub use Rattle.line_text.specs.Words.{Extends, number_text}
-pub use Rattle.locked_net.proofs.ReceiptAddition.{seen_few, front_more, front_free}
+pub use Rattle.locked_net.proofs.ReceiptAddition.{seen_few, front_more}
 pub use Rattle.locked_net.proofs.Turns.{turns_on}
-pub use Rattle.locked_net.specs.Calls.{Keeps, call_fault, Drives, Breaks}
-pub use Rattle.locked_net.specs.ChosenEvents.{ChoosesOn, ChoosesStep, IsChosenReply}
+pub use Rattle.locked_net.specs.Calls.{Keeps, call_fault}
+pub use Rattle.locked_net.specs.ChosenEvents.{ChoosesOn, IsChosenReply}
 pub use Rattle.locked_net.specs.ClerkCalls.{some_of}
 pub use Rattle.locked_net.specs.Nets.{setting_of, book_of, beginning_of, name_count_of, first_nodes_of, log_limit_of}
 pub use Rattle.locked_net.specs.PublishedJournals.{PublishedJournalView}
@@ -61,9 +59,8 @@ pub use Rattle.step_log.specs.declared.receipt.Receipt.{Receipt}
 pub use Rattle.storm_runner.specs.Faults.{of_call}
 pub use Rattle.storm_runner.specs.RetainedText.{IsWritableEntry, AreWritable}
 pub use Rattle.storm_runner.specs.Outcome.{Leaves, LeavesText, EndsAllScripts, WritesKept, StormStart, start_setting}
-pub use Rattle.storm_runner.specs.Parts.{FailsToPlay, FailsToWrite}
-pub use Rattle.storm_runner.specs.PlayedCommands.{AddsReceipts, PlayedOn, ToldOn, IsBased, AllStop, scene_of, Plays, TakesTurnsUpTo}
+pub use Rattle.storm_runner.specs.StormParts.{FailsToPlay, FailsToWrite}
+pub use Rattle.storm_runner.specs.PlayedCommands.{AddsReceipts, AddsTurn, AllRoamedOnNotes, RoamResultOfNew, EndsTurn, FindsNothing, PlayedOn, ToldOn, IsBased, AllStop, scene_of, Plays, TakesTurnsUpTo}
 pub use Rattle.storm_runner.specs.Storm.{IsFor, AreAbove, IsRoaming, IsOfStep, IsOfFault, IsPartOf, AreScriptReceipts, IsLastCheckpoint, StandsInPart, MayEndScript, is_checkpoint, has_checkpoint, AllPlayed, AllRoamed, IsStormResult}
-pub use Rattle.storm_runner.specs.StormRoamers.{AllRoamedOnNotes, RoamResultOfNew}
-pub use Rattle.storm_runner.specs.Turns.{Scene, IsTurn, AreTurns, DrawnFrom, IsLogBehind, TakesChosenEvent, Draw, Gains, IsIdleBehind, IsQuiet, IsEmpty}
+pub use Rattle.storm_runner.specs.Turns.{Scene, IsTurn, AreTurns, AreDrawn, DrawnFrom, IsLogBehind, IsIdleBehind, DrawsNone, IsQuiet, IsEmpty}
 pub use Rattle.storm_runner.specs.declared.fault.StormFault.{StormFault}

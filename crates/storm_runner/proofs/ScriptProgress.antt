@@ -24,16 +24,9 @@ pub stands_next : (scene : Scene) (base : Option ℕ) (lines : List ScriptLine) 
 stands_next scene base lines k line old new below is stands adds =
     subst (λ ls. AreScriptReceipts scene 0 ls new) (sym (next_line lines k line below is)) (subst (AreScriptReceipts scene 0 (take k lines ++ line ∷ [])) (sym adds.added) (stands_more scene 0 (take k lines) line old adds.own stands adds.fits.0))
 
-or-true : (b : Bool) → (b || true) ≡ true
-or-true b = grind arith
-
-greater_is : (one : Option ℕ) (number : ℕ) → is_some (greater_base one (Some number)) ≡ true
-greater_is one number = grind arith
-
 -- a clerk has a base after a command if it had one before, or if the command is a checkpoint
 based_more : (setting : Setting) (command : Command) (old new : ClerkView) → IsBased setting command old new → is_some new.base ≡ is_some old.base || is_checkpoint command
-based_more setting Checkpoint old new (number, holds, is) = ap is_some is ∙ greater_is old.base number ∙ sym (or-true (is_some old.base))
-based_more setting command old new same = ap is_some same ∙ sym (or-false (is_some old.base))
+based_more setting command old new based = grind arith
 
 pub based_next : (setting : Setting) (lines : List ScriptLine) (k : ℕ) (line : ScriptLine) (old new : ClerkView) → k < length lines → line ≡ get_or lines k line → is_some old.base ≡ has_checkpoint (take k lines)
     → IsBased setting line.command old new → is_some new.base ≡ has_checkpoint (take (k + 1) lines)
@@ -62,16 +55,12 @@ placed_more scene lines line receipts own number plain for above is = record {
   below = All-append (λ (r : Receipt). number < r.seq) is.rest own is.below above;
 }
 
-placed_if : (scene : Scene) (lines : List ScriptLine) (line : ScriptLine) (receipts own : List Receipt) (base : Option ℕ) → is_checkpoint line.command ≡ false → IsFor scene (front_of receipts) line.command own → AreAbove base own → IfSome base (IsLastCheckpoint scene lines receipts)
-    → IfSome base (IsLastCheckpoint scene (lines ++ line ∷ []) (receipts ++ own))
-placed_if scene lines line receipts own None plain for above is = tt
-placed_if scene lines line receipts own (Some number) plain for above is = placed_more scene lines line receipts own number plain for above is
-
 -- so it is of a clerk that kept its base
-placed_kept : (scene : Scene) (lines : List ScriptLine) (line : ScriptLine) (old new : ClerkView) (own : List Receipt) → new.base ≡ old.base → is_checkpoint line.command ≡ false → IsFor scene (front_of old.receipts) line.command own → AreAbove old.base own
-    → IfSome old.base (IsLastCheckpoint scene lines old.receipts) → IfSome new.base (IsLastCheckpoint scene (lines ++ line ∷ []) (old.receipts ++ own))
-placed_kept scene lines line old new own same plain for above is =
-    subst (λ (base : Option ℕ). IfSome base (IsLastCheckpoint scene (lines ++ line ∷ []) (old.receipts ++ own))) (sym same) (placed_if scene lines line old.receipts own old.base plain for above is)
+placed_kept : (scene : Scene) (lines : List ScriptLine) (line : ScriptLine) (receipts own : List Receipt) (base now : Option ℕ) → now ≡ base → is_checkpoint line.command ≡ false → IsFor scene (front_of receipts) line.command own → AreAbove base own
+    → IfSome base (IsLastCheckpoint scene lines receipts) → IfSome now (IsLastCheckpoint scene (lines ++ line ∷ []) (receipts ++ own))
+placed_kept scene lines line receipts own base None same plain for above is = tt
+placed_kept scene lines line receipts own base (Some number) same plain for above is =
+    placed_more scene lines line receipts own number plain for (rw (← same) at above) (rw (← same) at is)
 
 -- a checkpoint is the last, with the number that it answers
 placed_here : (scene : Scene) (lines : List ScriptLine) (line : ScriptLine) (receipts own : List Receipt) (number : ℕ) → line.command ≡ Checkpoint → own ≡ [] → AreScriptReceipts scene 0 lines receipts → front_of receipts ≤ number
@@ -105,7 +94,7 @@ placed_by setting scene lines line Checkpoint old new own e stands none above (n
     subst (λ (base : Option ℕ). IfSome base P) (sym greater)
     (of_greater P old.base number (λ n more. placed_here scene lines line old.receipts own n e none stands (omega (arith, all, more))))
 placed_by setting scene lines line command old new own e stands for above same is =
-    placed_kept scene lines line old new own same (ap is_checkpoint e) (subst (λ (c : Command). IsFor scene (front_of old.receipts) c own) (sym e) for) above is
+    placed_kept scene lines line old.receipts own old.base new.base same (ap is_checkpoint e) (subst (λ (c : Command). IsFor scene (front_of old.receipts) c own) (sym e) for) above is
 
 pub placed_next : (setting : Setting) (scene : Scene) (lines : List ScriptLine) (k : ℕ) (line : ScriptLine) (old new : ClerkView) → k < length lines → line ≡ get_or lines k line → AreScriptReceipts scene 0 (take k lines) old.receipts
     → AddsReceipts (λ own. IsFor scene (front_of old.receipts) line.command own × AreAbove old.base own) old.receipts new.receipts → IsBased setting line.command old new → IfSome old.base (IsLastCheckpoint scene (take k lines) old.receipts) → IfSome new.base (IsLastCheckpoint scene (take (k + 1) lines) new.receipts)
@@ -137,5 +126,4 @@ stands_part scene lines k line old new below is stands adds so_far placed kept =
 
 -- a fault ended the script in that part
 pub stops : (scene : Scene) (lines : List ScriptLine) (clerk : ClerkView) (result : Result (Unit {0}) CallFault) → IsErr result → StandsInPart scene lines clerk → MayEndScript scene lines clerk (result_err result)
-stops scene lines clerk (Ok done) err part = absurd (false≢true err)
-stops scene lines clerk (Err fault) err part = part
+stops scene lines clerk result err part = grind arith

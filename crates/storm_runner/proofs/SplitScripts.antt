@@ -1,17 +1,16 @@
 -- Scripts that were played in two parts.
-use Rattle.storm_runner.proofs.Prelude.{◌≡◌, ℕ, List, [], ◌∷◌, ◌++◌, take, drop, Option, subst, All, take-append-drop, option_or, All-nil, All-cons, All-head, All-tail, IsPrefix, Entry, ClerkView, noted, Setting, CallFault, ScriptLine, AllPlayed, AllStop, PlayedOn}
+use Rattle.storm_runner.proofs.Prelude.{◌≡◌, ℕ, ◌+◌, List, [], ◌∷◌, ◌++◌, length, take, drop, Option, subst, arith, All, take-append-drop, length-append, option_or, All-head, All-tail, IsPrefix, Entry, ClerkView, noted, Setting, CallFault, ScriptLine, AllPlayed, AllStop, PlayedOn}
+use Rattle.std.proofs.lemmas.List.{get_or_append_left, get_or-append-add}
 use Rattle.locked_net.proofs.Ends.{faults_joined}
 use Rattle.storm_runner.specs.Storm.{MayEndScript}
 use Rattle.storm_runner.proofs.LogExtension.{stop_lasts}
 
 -- what holds of all in a row holds of all in its parts
 pub all_left : {X : Type 0} (P : X → Type 0) (xs ys : List X) → All P (xs ++ ys) → All P xs
-all_left P [] ys all = All-nil P
-all_left P (x ∷ xs) ys all = All-cons P x xs (All-head P x (xs ++ ys) all) (all_left P xs ys (All-tail P x (xs ++ ys) all))
+all_left P xs ys all k d below = rw (← get_or_append_left xs ys d k below) (all k d (omega (arith, below, length-append xs ys)))
 
 pub all_right : {X : Type 0} (P : X → Type 0) (xs ys : List X) → All P (xs ++ ys) → All P ys
-all_right P [] ys all = all
-all_right P (x ∷ xs) ys all = all_right P xs ys (All-tail P x (xs ++ ys) all)
+all_right P xs ys all k d below = rw (← get_or-append-add xs ys k d) (all (length xs + k) d (omega (arith, below, length-append xs ys)))
 
 pub halves_played : (setting : Setting) (scripts left right : List (List ScriptLine)) (k : ℕ) (ours theirs : List ClerkView) (fault other first : Option CallFault)
     → left ≡ take k scripts → right ≡ drop k scripts → first ≡ option_or fault other → PlayedOn setting left ours fault → PlayedOn setting right theirs other → PlayedOn setting scripts (ours ++ theirs) first

@@ -5,7 +5,7 @@ use Rattle.rule_machine.specs.Tables.{table_of, weight_of}
 use Rattle.script_run.specs.Restarts.{options_at, restart_of}
 use Rattle.script_run.specs.declared.restart.Restart.{Restart}
 use Rattle.storm_runner.specs.Outcome.{IsResumedStorm, resumed_start}
-use Rattle.storm_runner.specs.StormStarts.{base_at_start, start_of}
+use Rattle.storm_runner.specs.StormParts.{base_at_start, start_of}
 
 pub leaves_as_asked : (t : RuleTable) (weight : ℕ) (asked : OptionsView) (base : Option Base) (nodes present limit roamers turns : ℕ) (scripts : List (List ScriptLine)) (fault : Option CallFault) (kept : RetainedLog) → nodes ≡ asked.nodes → present ≡ asked.present → limit ≡ asked.limit → roamers ≡ asked.roamers → turns ≡ asked.turns → IsRetainedRun t weight kept → Upholds t weight kept
     → (kept.state.network.size ≡ nodes) × (kept.present ≡ present) × (kept.limit ≡ limit) → IsStormResult (record { table = t; nodes = nodes; present = present; base = base; limit = limit }) kept scripts roamers turns fault → Leaves t weight (record { asked = asked; base = base }) scripts fault kept

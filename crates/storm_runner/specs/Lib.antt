@@ -1,11 +1,9 @@
 pub mod Turns
 pub mod Storm
 pub mod PlayedCommands
-pub mod StormRoamers
 pub mod Faults
 pub mod FaultText
 pub mod Status
 pub mod Outcome
-pub mod Parts
+pub mod StormParts
 pub mod RetainedText
-pub mod StormStarts

@@ -26,7 +26,6 @@ use Rattle.storm_runner.specs.Storm.{IsStormResult, IsUnsettledStorm}
 use Rattle.storm_runner.specs.RetainedText.{AreWritable, kept_text}
 use Rattle.script_run.specs.Restarts.{RestartView, options_at}
 use Rattle.script_run.specs.RunOptions.{OptionsView}
-use Rattle.script_run.specs.Restarts.{RestartView}
 use Rattle.script_text.specs.Readers.{AllHold, FirstBadScript}
 use Rattle.storm_runner.specs.declared.fault.StormFault.{StormFault}
 use Rattle.storm_runner.specs.declared.fault.StormFault.TheVariants.{TooManyScripts, BadLine, LogFull, Read, Write, Memory, Behind, Thread, Unsettled}

@@ -4,12 +4,10 @@
 -- state of the locked log, and the event is recorded. Between two turns other threads may record anything;
 -- the words go on where the turn before left off. All turns are of one log: each was taken on a beginning of
 -- it, even if there was nothing to do.
-use Rattle.std.specs.Prelude.{◌≡◌, ◌≤◌, ℕ, List, [], ◌∷◌, ◌++◌, Option, Some}
+use Rattle.std.specs.Prelude.{◌≡◌, ◌≤◌, ℕ, List, [], ◌∷◌, None, Some}
 use Rattle.std.specs.List.{All}
 use mathlib.Core.List.{IsPrefix}
 use Rattle.rand_core.specs.Stream.{Stream}
-use Rattle.rule_machine.specs.declared.event.Event.{Event}
-use Rattle.rule_machine.specs.declared.reply.Reply.{Reply}
 use Rattle.rule_machine.specs.State.{State}
 use Rattle.rule_machine.specs.Network.{node_count}
 use Rattle.rule_machine.specs.RuleTable.{RuleTable, enabled_names}
@@ -17,8 +15,7 @@ use Rattle.rule_machine.specs.Run.{Entry}
 use Rattle.seeded_turns.specs.DrawnEvents.{Draws}
 use Rattle.step_log.specs.declared.receipt.Receipt.{Receipt}
 use Rattle.step_log.specs.RetainedLogs.{RetainedLog, last_number, next_receipt}
-use Rattle.locked_net.specs.ChosenEvents.{TakesChoice}
-use Rattle.locked_net.specs.Receipts.{ClerkView, front_from, noted}
+use Rattle.locked_net.specs.Receipts.{front_from}
 use Rattle.locked_net.specs.Settings.{Setting, IsLogIn}
 
 -- what turns are taken on: a network's setting, and the entries of its log
@@ -35,31 +32,19 @@ pub record IsTurn (scene : Scene) (draws : Draws) (words : Stream) (receipt : Re
   pub drawn : (Some receipt.event, left) ≡ draws scene.setting.table log.state words
   pub told : receipt ≡ next_receipt scene.setting.table log receipt.event
 
--- An event, or none, was chosen on a beginning of the log that the clerk's new note shows. A chosen event was
--- recorded there. This beginning includes all that the clerk had seen.
-pub record TakesChosenEvent (setting : Setting) (Chooses : State → Option Event → Type 0) (old : List Receipt) (new : ClerkView) (answer : Option Reply) : Type 0 where
-  pub took : TakesChoice setting Chooses old new.receipts new.note answer
-  pub begins : IsPrefix took.log.entries (noted new.note)
-
--- what was chosen is what these words draw in the state there, and the second words are left
-abbrev pub Draw : Setting → Draws → Stream → Stream → List Receipt → ClerkView → Option Reply → Type 0
-Draw setting draws words left old new answer = TakesChosenEvent setting (λ s event. (event, left) ≡ draws setting.table s words) old new answer
-
--- a receipt of the kind was added
-pub record Gains (P : Receipt → Type 0) (old new : List Receipt) : Type 0 where
-  pub receipt : Receipt
-  pub added : new ≡ old ++ receipt ∷ []
-  pub is : P receipt
-
 -- turns were taken one after another; each begins with the words that the turn before left
 abbrev pub AreTurns : Scene → Draws → Stream → List Receipt → Stream → Type 0
 AreTurns scene draws words [] left = left ≡ words
 AreTurns scene draws words (receipt ∷ receipts) left =
     (next : Stream) × IsTurn scene draws words receipt next × AreTurns scene draws next receipts left
 
--- the receipts are those of turns with these words, and P holds of each receipt
+-- the receipts are those of turns with these words
+abbrev pub AreDrawn : Scene → Draws → Stream → List Receipt → Type 0
+AreDrawn scene draws words own = (left : Stream) × AreTurns scene draws words own left
+
+-- and P holds of each receipt
 abbrev pub DrawnFrom : Scene → Draws → Stream → (Receipt → Type 0) → List Receipt → Type 0
-DrawnFrom scene draws words P own = All P own × ((left : Stream) × AreTurns scene draws words own left)
+DrawnFrom scene draws words P own = All P own × AreDrawn scene draws words own
 
 -- A beginning of the log with all that its clerk has seen: the entry with this number, and the entries of the
 -- receipts after that entry.
@@ -68,6 +53,10 @@ pub record IsLogBehind (scene : Scene) (front : ℕ) (own : List Receipt) : Type
   pub is_own : IsLogIn scene.setting log
   pub begins : IsPrefix log.entries scene.log
   pub behind : front_from front own ≤ last_number log
+
+-- some words draw no event in a state
+abbrev pub DrawsNone : Draws → RuleTable → State → Type 0
+DrawsNone draws t s = (words : Stream) × ((draws t s words).0 ≡ None)
 
 -- no node is enabled
 abbrev pub IsQuiet : RuleTable → State → Type 0

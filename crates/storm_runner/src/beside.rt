@@ -8,8 +8,7 @@ ghost use Rattle.locked_net.specs.Nets.{book_of, setting_of};
 ghost use Rattle.locked_net.specs.Receipts.{fresh, IsOfBook};
 ghost use Rattle.locked_net.specs.RoamResults.{roam_call_fault};
 ghost use Rattle.locked_net.specs.declared.fault.RoamFault.TheVariants.{Thread};
-ghost use Rattle.storm_runner.specs.PlayedCommands.{PlayedOn, ToldOn};
-ghost use Rattle.storm_runner.specs.StormRoamers.{RoamResultOfNew};
+ghost use Rattle.storm_runner.specs.PlayedCommands.{PlayedOn, RoamResultOfNew, ToldOn};
 
 use crate::split_work::play_all;
 use crate::storm_context::StormContext;

@@ -26,7 +26,7 @@ mod run;
 mod split_work;
 mod storm_context;
 mod storming;
-mod turn_taker;
+mod turns;
 
 pub use ending::{status, storm_end};
 pub use fault::StormFault;

@@ -9,7 +9,7 @@ ghost use Rattle.std.specs.Io.KnownBytes.{Appends};
 ghost use Rattle.script_run.specs.RunOptions.{asked_of};
 ghost use Rattle.step_log.specs.JournalViews.{kept_of};
 ghost use Rattle.storm_runner.specs.Outcome.{WritesKept};
-ghost use Rattle.storm_runner.specs.Parts.{FailsToWrite};
+ghost use Rattle.storm_runner.specs.StormParts.{FailsToWrite};
 ghost use Rattle.storm_runner.specs.declared.fault.StormFault.TheVariants.{Write as Unwritten};
 
 use crate::StormFault;

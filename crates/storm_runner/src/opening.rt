@@ -6,7 +6,7 @@ ghost use Rattle.rule_machine.specs.Tables.{table_of, weight_of};
 ghost use Rattle.script_run.specs.Restarts.{restart_of};
 ghost use Rattle.script_run.specs.RunOptions.{asked_of};
 ghost use Rattle.storm_runner.specs.Outcome.{resumed_start};
-ghost use Rattle.storm_runner.specs.StormStarts.{GoesOnAs, base_at_start};
+ghost use Rattle.storm_runner.specs.StormParts.{GoesOnAs, base_at_start};
 
 use locked_net::LockedNet;
 use rule_engine::Net;

@@ -9,7 +9,7 @@ ghost use Rattle.script_text.specs.declared.command.Command.TheVariants.{Tell, C
 ghost use Rattle.storm_runner.specs.PlayedCommands.{Plays, IsBased};
 
 use crate::storm_context::StormContext;
-use crate::turn_taker::{drive, recall, scramble};
+use crate::turns::{drive, recall, scramble};
 use locked_net::{CallFault, Clerk, LockedNet, StepFault};
 use rule_machine::{Event, Reply, Rules};
 use script_text::Command;

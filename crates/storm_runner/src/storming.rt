@@ -5,8 +5,7 @@ ghost use Rattle.script_run.specs.Restarts.{restart_of};
 ghost use Rattle.script_run.specs.RunOptions.{asked_of};
 ghost use Rattle.step_log.specs.JournalViews.{kept_of};
 ghost use Rattle.storm_runner.specs.Outcome.{EndsUnder, IsResumedStorm, IsStormOutcome, Leaves};
-ghost use Rattle.storm_runner.specs.Parts.{FailsToPlay};
-ghost use Rattle.storm_runner.specs.StormStarts.{GoesOnAs, start_of};
+ghost use Rattle.storm_runner.specs.StormParts.{FailsToPlay, GoesOnAs, start_of};
 ghost use Rattle.storm_runner.specs.declared.fault.StormFault.TheVariants.{Write as Unwritten};
 
 use crate::log::write_log;
