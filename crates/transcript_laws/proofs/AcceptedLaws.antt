@@ -2,7 +2,7 @@
 use Rattle.std.proofs.Common.{◌≡◌, ℕ, ◌+◌, ◌≤◌, List, [], ◌++◌, length, refl, sym, ap, ◌∙◌, append-nil, arith}
 use Rattle.rule_machine.specs.declared.rule_set.RuleSet.{RuleSet}
 use Rattle.rule_machine.specs.Base.{LogPart, NumberedMoment, base_of, entries_in}
-use Rattle.rule_machine.specs.Run.{Entry, beginning_with}
+use Rattle.rule_machine.specs.Run.{beginning_with}
 use Rattle.rule_machine.specs.Tables.{table_of}
 use Rattle.machine_laws.proofs.Bases.{passes_run}
 use Rattle.line_text.specs.BaseText.{base_text}
@@ -14,26 +14,13 @@ use Rattle.auditor.specs.declared.transcript_end.TranscriptEnd.{TranscriptEnd}
 use Rattle.auditor.specs.declared.summary.Summary.{Summary}
 use Rattle.auditor.specs.AcceptedRuns.{IsAccepted}
 use Rattle.auditor.specs.Parts.{Based, Named, Opening, size_of}
-use Rattle.auditor.specs.Transcript.{IsTranscript, epoch_count, move_count}
+use Rattle.auditor.specs.Transcript.{IsTranscript}
 use Rattle.auditor.specs.TranscriptEnds.{IsTranscriptEnd, end_moment}
+use Rattle.auditor.proofs.TextEnds.{counted_transcript, summary_of}
 use Rattle.audit_parts.proofs.CutTranscripts.{reopens_end}
 use Rattle.transcript_laws.specs.Written.{IsWrittenBehind, LinesReachEnd, moment_of, start_behind}
 use Rattle.transcript_laws.proofs.Growth.{base_added, size_same}
 use Rattle.transcript_laws.proofs.AcceptedLines.{from_start, reached, to_start}
-
--- the counts of a log
-abbrev pub summary_of : List Entry → Summary
-summary_of log = record { entries = length log; epochs = epoch_count log; moves = move_count log }
-
-pub accepted : (bytes : List ℕ) (rules : RuleSet) (o : Opening) (log : List LogPart) (end : NumberedMoment) → IsTranscript bytes rules o log end → IsAccepted bytes (summary_of (entries_in log))
-accepted bytes rules o log end is = record {
-  rules = rules;
-  opening = o;
-  log = log;
-  end = end;
-  transcript = is;
-  counts = record { entries = refl; epochs = refl; moves = refl };
-}
 
 -- all of a run's entries, but for those that its opening has dropped
 pub counted : (bytes : List ℕ) (rules : RuleSet) (o : Opening) (log : List LogPart) (end : NumberedMoment) (is : IsTranscript bytes rules o log end) → end.count ≡ is.start.count + length (entries_in log)
@@ -60,9 +47,7 @@ runs_accepted rules nodes present limit lines end few within most reach =
     let o = Named nodes present in
     let ends = to_start [] o end (reached [] [] o rules limit most lines start end refl (from_start [] o start (first_written rules nodes present few within)) reach).1 in
     let is = ends.1 in
-    let all = counted end.text end.rules o ends.0 (moment_of end) is in
-    let none = is.opens.count in
-    (summary_of (entries_in ends.0), accepted end.text end.rules o ends.0 (moment_of end) is, omega (arith, all, none))
+    (summary_of (entries_in ends.0), counted_transcript end.text end.rules o ends.0 (moment_of end) is, omega (arith, counted end.text end.rules o ends.0 (moment_of end) is, is.opens.count))
 
 -- ---- a run that goes on
 
@@ -95,9 +80,7 @@ module _ (first : List ℕ) (from : TranscriptEnd) (is : IsTranscriptEnd first f
   alone_accepted limit lines end most reach =
       let ends = to_start [] own_base end (reached [] [] own_base from.rules limit most lines (start_behind from) end refl (from_start [] own_base (start_behind from) own_start) reach).1 in
       let run = ends.1 in
-      let all = counted end.text end.rules own_base ends.0 (moment_of end) run in
-      let before = run.opens.count in
-      (summary_of (entries_in ends.0), accepted end.text end.rules own_base ends.0 (moment_of end) run, omega (arith, all, before))
+      (summary_of (entries_in ends.0), counted_transcript end.text end.rules own_base ends.0 (moment_of end) run, omega (arith, counted end.text end.rules own_base ends.0 (moment_of end) run, run.opens.count))
 
   -- the opening says how many entries were before
   pub joined_accepted : (limit : ℕ) (lines : List (List ℕ)) (end : Progress) → limit ≤ max_entries → LinesReachEnd (table_of from.rules) limit lines (start_behind from) end → (c : Summary) × IsAccepted (first ++ end.text) c × (c.entries + from.number ≡ from.summary.entries + end.count)
@@ -106,8 +89,5 @@ module _ (first : List ℕ) (from : TranscriptEnd) (is : IsTranscriptEnd first f
       let ends = to_start first o end (reached [] first o from.rules limit most lines (start_behind from) end refl (from_start first o (start_behind from) joined_start) reach).1 in
       let run = ends.1 in
       let all = counted (first ++ end.text) end.rules o ends.0 (moment_of end) run in
-      let begun = run.opens.count in
       let own = counted first from.rules o is.log (end_moment from) at_end in
-      let before = at_end.opens.count in
-      let entries = is.counts.entries in
-      (summary_of (entries_in ends.0), accepted (first ++ end.text) end.rules o ends.0 (moment_of end) run, omega (arith, all, begun, own, before, entries))
+      (summary_of (entries_in ends.0), counted_transcript (first ++ end.text) end.rules o ends.0 (moment_of end) run, omega (arith, all, run.opens.count, own, at_end.opens.count, is.counts.entries))

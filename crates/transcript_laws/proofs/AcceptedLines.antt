@@ -19,12 +19,12 @@ use Rattle.step_log.specs.declared.fault.RecordFault.{RecordFault}
 use Rattle.step_log.specs.declared.fault.RecordFault.TheVariants.{LogFull, Memory}
 use Rattle.run_session.specs.declared.line_error.LineError.{LineError}
 use Rattle.run_session.specs.declared.line_error.LineError.TheVariants.{BadLine, Record}
-use Rattle.run_session.specs.Line.{TurnsBegin, CommandBegins, CommandEnds, LineEnds}
+use Rattle.run_session.specs.Line.{CommandBegins, CommandEnds, LineEnds}
 use Rattle.seeded_turns.specs.DrawnEvents.{Draws, drawn_fault, drawn_step, seeded_stream}
 use Rattle.auditor.specs.Parts.{Opening}
 use Rattle.auditor.specs.Transcript.{IsTranscript}
 use Rattle.transcript_laws.specs.Written.{IsWrittenAfter, IsWrittenBehind, LinesReachEnd, moment_of}
-use Rattle.transcript_laws.proofs.Draws.{DrawEvents, faults_are_events, steps_are_events}
+use Rattle.transcript_laws.proofs.Values.{DrawEvents, faults_are_events, steps_are_events}
 use Rattle.transcript_laws.proofs.Growth.{base_added, entry_added, size_few}
 
 same_progress : (p q : Progress) → p.rules ≡ q.rules → p.moment ≡ q.moment → p.count ≡ q.count → p.text ≡ q.text → p.counting ≡ q.counting → p ≡ q
@@ -117,15 +117,12 @@ module _ (ended first : List ℕ) (o : Opening) (rules : RuleSet) (limit : ℕ) 
 
   -- ---- however a line or a command ends
 
-  turns_begun : (draws : Draws) → DrawEvents draws (table_of rules) → (n : ℕ) (stream : Stream) (before after : Progress) → TurnsBegin draws (table_of rules) limit n stream before after → Well before → Well after
-  turns_begun draws events n stream before after (taken, within, does) well = turns draws events taken stream before after does well
-
   begun : (c : Command) (before after : Progress) → CommandBegins (table_of rules) limit c before after → Well before → Well after
   begun (Tell event) before after does well = stays before after does well
-  begun (Drive n) before after does well =
-      turns_begun drawn_step (steps_are_events (table_of rules)) n.count (seeded_stream n.seed) before after does well
-  begun (Scramble n) before after does well =
-      turns_begun drawn_fault (faults_are_events (table_of rules)) n.count (seeded_stream n.seed) before after does well
+  begun (Drive n) before after (taken, within, does) well =
+      turns drawn_step (steps_are_events (table_of rules)) taken (seeded_stream n.seed) before after does well
+  begun (Scramble n) before after (taken, within, does) well =
+      turns drawn_fault (faults_are_events (table_of rules)) taken (seeded_stream n.seed) before after does well
   begun Checkpoint before after does well = stays before after does well
 
   pub command_ended : (c : Command) (before after : Progress) (result : Result Unit RecordFault) → IsCommand c → CommandEnds (table_of rules) limit c before after result → Well before → Well after

@@ -22,7 +22,7 @@ use Rattle.auditor.specs.Transcript.{IsLogPart, IsTranscript}
 use Rattle.auditor.proofs.Spent.{is_table}
 use Rattle.auditor.proofs.Steps.{parts_add, parts_text_add, passes_add}
 use Rattle.audit_parts.proofs.CutTranscripts.{Reopens, reopens_end}
-use Rattle.transcript_laws.proofs.Replies.{IsWithin, reply_in}
+use Rattle.transcript_laws.proofs.Values.{IsWithin, reply_in}
 
 -- the machine's reply at a moment
 abbrev pub reply_at : RuleSet → NumberedMoment → Event → Reply
@@ -40,13 +40,10 @@ weighs Manne spent charge edges nodes within = omega (arith, within)
 within : (rules : RuleSet) (size : ℕ) (at : NumberedMoment) → Reopens rules size at → IsWithin (table_of rules) at.moment.state at.moment.spent
 within rules size at begun =
     let s = at.moment.state in
-    let same = begun.begins.size_is in
-    let few = begun.fits.few in
-    let many = begun.fits.edges in
     let edges : length (base_of at.count at.moment).edges ≡ edge_count s.network = length-map (finmap.entries s.network.edges) (λ e. e.0) ∙ sym (finmap.len-entries s.network.edges) in
     record {
-      few = omega (arith, same, few);
-      edges = omega (arith, many, edges);
+      few = omega (arith, begun.begins.size_is, begun.fits.few);
+      edges = omega (arith, begun.fits.edges, edges);
       bounded = weighs rules at.moment.spent ((table_of rules).charge s) (edge_count s.network) (node_count s.network) begun.begins.within;
     }
 
@@ -76,13 +73,11 @@ module _ (bytes : List ℕ) (rules : RuleSet) (o : Opening) (log : List LogPart)
       let spent = end.moment.spent in
       let good = begun.begins.is_state in
       let limits = within rules (size_of o) end begun in
-      let nodes = nodes_few s.network in
-      let named = limits.few in
       let part = EntryPart (event, reply_at rules end event) in
       let own : IsLogPart part = record {
         event = fits;
         reply = reply_in t (is_table rules) s good spent limits event;
-        fits = reply_fits t (is_table rules) s good spent event (omega (arith, nodes, named));
+        fits = reply_fits t (is_table rules) s good spent event (omega (arith, nodes_few s.network, limits.few));
       } in
       record {
         start = is.start;

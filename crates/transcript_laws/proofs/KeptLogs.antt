@@ -19,8 +19,9 @@ use Rattle.step_log.specs.RetainedLogs.{IsBaseOfGraph, IsRetainedRun, RetainedLo
 use Rattle.auditor.specs.declared.summary.Summary.{Summary}
 use Rattle.auditor.specs.AcceptedRuns.{IsAccepted}
 use Rattle.auditor.specs.Parts.{Opens, opening_text, parts_text, size_of}
-use Rattle.auditor.specs.Transcript.{IsEntryValue, IsLogPart, IsTranscript, epoch_count, move_count}
+use Rattle.auditor.specs.Transcript.{IsEntryValue, IsLogPart, IsTranscript}
 use Rattle.auditor.proofs.Spent.{light}
+use Rattle.auditor.proofs.TextEnds.{counted_transcript, summary_of}
 use Rattle.audit_parts.proofs.Shape.{base_shaped}
 use Rattle.transcript_laws.specs.Written.{log_text, opening_of}
 
@@ -64,22 +65,17 @@ opens rules size present None start few within low short begins = record { fits 
 opens rules size present (Some base) start few within low short begins =
     let net = start.state.network in
     let edges : length base.edges ≡ edge_count net = ap (λ (b : Base). length b.edges) begins.lines ∙ length-map (finmap.entries net.edges) (λ e. e.0) ∙ sym (finmap.len-entries net.edges) in
-    let most = short.1 in
     let bounded = light rules start.spent ((table_of rules).charge start.state) (edge_count net) (node_count net) begins.within in
     record {
       fits = record {
         few = few;
-        shaped = subst IsShaped (sym begins.lines) (base_shaped base.number size start begins.is_state begins.size_is few low (omega (arith, edges, most)) bounded);
+        shaped = subst IsShaped (sym begins.lines) (base_shaped base.number size start begins.is_state begins.size_is few low (omega (arith, edges, short.1)) bounded);
         number = low;
-        edges = most;
+        edges = short.1;
       };
       begins = begins;
       count = refl;
     }
-
-size_is : (size present : ℕ) (base : Option Base) → size_of (opening_of size present base) ≡ size
-size_is size present None = refl
-size_is size present (Some base) = refl
 
 -- ---- the text
 
@@ -90,19 +86,14 @@ kept_accepted rules kept run within values =
     let o = opening_of size kept.present kept.base in
     let front = opening_text rules o in
     let before = dropped kept.base in
-    let room = run.room in
-    let limit = run.limit in
     let log = parts_of kept.entries in
     let end = stand (moment_in kept) (before + length kept.entries) in
     let is : IsTranscript (log_text rules kept) rules o log end = record {
       start = stand run.start before;
-      opens = opens rules size kept.present kept.base run.start run.size within (omega (arith, room, limit)) run.short run.begins;
+      opens = opens rules size kept.present kept.base run.start run.size within (omega (arith, run.room, run.limit)) run.short run.begins;
       text = ap (λ (l : List ℕ). front ++ l) (sym (text_of rules (size_of o) before kept.entries));
       parts = values_of kept.entries values;
-      not_too_many = omega (arith, room, limit);
+      not_too_many = omega (arith, run.room, run.limit);
       passes = passes_of (table_of rules) run.start kept.entries (moment_in kept) before run.run;
-    } in (
-      record { entries = length (entries_in log); epochs = epoch_count (entries_in log); moves = move_count (entries_in log) },
-      record { rules = rules; opening = o; log = log; end = end; transcript = is; counts = record { entries = refl; epochs = refl; moves = refl } },
-      ap length (entries_of kept.entries),
-    )
+    } in
+    (summary_of (entries_in log), counted_transcript (log_text rules kept) rules o log end is, ap length (entries_of kept.entries))

@@ -1,6 +1,4 @@
-mod Lists
-mod Replies
-mod Draws
+mod Values
 mod Growth
 pub mod AcceptedLines
 pub mod AcceptedLaws

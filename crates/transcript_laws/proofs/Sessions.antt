@@ -13,8 +13,9 @@ use Rattle.auditor.specs.declared.summary.Summary.{Summary}
 use Rattle.auditor.specs.AcceptedRuns.{IsAccepted}
 use Rattle.auditor.specs.Parts.{Opening}
 use Rattle.auditor.specs.Transcript.{IsTranscript}
+use Rattle.auditor.proofs.TextEnds.{counted_transcript, summary_of}
 use Rattle.transcript_laws.specs.Written.{IsWrittenBehind, entries_before, moment_of, without_text}
-use Rattle.transcript_laws.proofs.AcceptedLaws.{accepted, counted, summary_of}
+use Rattle.transcript_laws.proofs.AcceptedLaws.{counted}
 use Rattle.transcript_laws.proofs.AcceptedLines.{command_ended, from_start, line_ended, to_start}
 
 pub line_stays : (first : List ℕ) (o : Opening) (limit number : ℕ) (line : List ℕ) (before after : Progress) (result : Result Unit LineError) → limit ≤ max_entries → IsWrittenBehind first o before → LineEnds (table_of before.rules) limit number line before after result → IsWrittenBehind first o after
@@ -31,6 +32,4 @@ text_taken first o p (log, is) =
 
 pub text_accepted : (first : List ℕ) (o : Opening) (p : Progress) → IsWrittenBehind first o p → (c : Summary) × IsAccepted (first ++ p.text) c × (c.entries + entries_before o ≡ p.count)
 text_accepted first o p (log, is) =
-    let all = counted (first ++ p.text) p.rules o log (moment_of p) is in
-    let before = is.opens.count in
-    (summary_of (entries_in log), accepted (first ++ p.text) p.rules o log (moment_of p) is, omega (arith, all, before))
+    (summary_of (entries_in log), counted_transcript (first ++ p.text) p.rules o log (moment_of p) is, omega (arith, counted (first ++ p.text) p.rules o log (moment_of p) is, is.opens.count))
