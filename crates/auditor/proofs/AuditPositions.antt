@@ -1,20 +1,17 @@
 -- How far an audit is, part by part.
-use Rattle.auditor.proofs.Prelude.{◌≡◌, ℕ, ◌+◌, ◌≤◌, inr, List, [], ◌∷◌, ◌++◌, Option, Some, Err, take, sum_by, refl, sym, ap, subst, ◌∙◌, append_assoc, append-nil, arith, length-append, sum_by-append, Base, RuleSet, State, LogPart, EntryPart, BasePart, NumberedMoment, base_of, entries_in, Entry, table_of, base_head, base_text, header_text, header_line, entry_text, first_line, Header, SpellsHeader, base_lines, base_text_is, first_line-splits, BadHeader, NotALine, OutOfOrder, NotTheMachines, BadBase, Read, Memory, AuditFault, Summary, Opening, Opens, opening_text, size_of, IsTranscript, NextPart, disturbances_in, reply_moves, BeginsWithTranscript, TranscriptPrefix, BeginsBase, IsLineBehind, HasNoEntry, Position, stand_of, position_at, counted_more, counted_part, GoodLine, BadNumber, BadReply, LineJudged, IsFurther, Counts, IsPositionAfter, IsMetBehind}
+use Rattle.auditor.proofs.Prelude.{◌≡◌, ℕ, ◌+◌, ◌≤◌, inr, List, [], ◌∷◌, ◌++◌, Some, Err, take, refl, sym, ap, subst, ◌∙◌, append_assoc, append-nil, arith, length-append, sum_by-append, Base, RuleSet, LogPart, EntryPart, BasePart, NumberedMoment, base_of, entries_in, Entry, table_of, base_head, base_text, header_text, header_line, first_line, SpellsEntry, Header, SpellsHeader, base_lines, base_text_is, first_line-splits, NotALine, OutOfOrder, NotTheMachines, BadBase, Memory, AuditFault, Summary, Opening, Opens, opening_text, size_of, IsTranscript, NextPart, StepsTo, disturbances_in, reply_moves, BeginsWithTranscript, TranscriptPrefix, BeginsBase, IsLineBehind, HasNoEntry, Position, stand_of, position_at, counted_more, counted_part, GoodLine, LineJudged, IsFurther, Counts, IsPositionAfter, IsMetBehind}
 use Rattle.auditor.proofs.LineCounts.{PartAt}
+use Rattle.auditor.proofs.Chains.{entry_line_is}
 use Rattle.auditor.proofs.Steps.{follows_more}
 
 -- ---- counts
 
-sum_by-push : (f : Entry → ℕ) (log : List Entry) (entry : Entry) → sum_by f (log ++ entry ∷ []) ≡ sum_by f log + f entry
-sum_by-push f log entry = sum_by-append f log (entry ∷ []) ∙ omega arith
-
-pub more_counts : (c d : Summary) (log : List Entry) (entry : Entry) → Counts c log → d ≡ counted_more c entry.1 → Counts d (log ++ entry ∷ [])
+more_counts : (c d : Summary) (log : List Entry) (entry : Entry) → Counts c log → d ≡ counted_more c entry.1 → Counts d (log ++ entry ∷ [])
 more_counts c d log entry counts is =
-    let l = length-append log (entry ∷ []) in
-    let e = sum_by-push (λ (x : Entry). disturbances_in x.1) log entry in
-    let m = sum_by-push (λ (x : Entry). reply_moves x.1) log entry in
+    let e = sum_by-append (λ (x : Entry). disturbances_in x.1) log (entry ∷ []) in
+    let m = sum_by-append (λ (x : Entry). reply_moves x.1) log (entry ∷ []) in
     record {
-      entries = ap (λ (s : Summary). s.entries) is ∙ omega (arith, counts.entries, l);
+      entries = ap (λ (s : Summary). s.entries) is ∙ omega (arith, counts.entries, length-append log (entry ∷ []));
       epochs = ap (λ (s : Summary). s.epochs) is ∙ omega (arith, counts.epochs, e);
       moves = ap (λ (s : Summary). s.moves) is ∙ omega (arith, counts.moves, m);
     }
@@ -32,8 +29,7 @@ entries_add (BasePart base ∷ log) part = entries_add log part
 
 pub part_counts : (c d : Summary) (log : List Entry) (part : LogPart) → Counts c log → d ≡ counted_part c part → Counts d (log ++ entries_of part)
 part_counts c d log (EntryPart entry) counts is = more_counts c d log entry counts is
-part_counts c d log (BasePart base) counts is =
-    subst (λ (s : Summary). Counts s (log ++ [])) (sym is) (subst (Counts c) (sym (append-nil log)) counts)
+part_counts c d log (BasePart base) counts is = rw (is, append-nil log) counts
 
 -- ---- the beginning
 
@@ -67,12 +63,7 @@ base_splits bytes rest behind rules size base cut is =
 
 pub opened_reached : (bytes : List ℕ) (rules : RuleSet) (size : ℕ) (p : Position) (rest : List ℕ) (start : NumberedMoment) (f : BeginsWithTranscript bytes rules [] start rest) → size_of f.opening ≡ size → p ≡ position_at start → IsPositionAfter bytes rules size p rest
 opened_reached bytes rules size p rest start f size_is opening =
-    subst (λ (q : Position). IsPositionAfter bytes rules size q rest) (sym opening) (record {
-      log = [];
-      follows = f;
-      size_is = size_is;
-      counts = record { entries = refl; epochs = refl; moves = refl };
-    })
+    rw opening (record { log = []; follows = f; size_is = size_is; counts = record { entries = refl; epochs = refl; moves = refl } })
 
 -- ---- one more part
 
@@ -87,23 +78,20 @@ reached_more bytes rules size p q rest behind r further =
       counts = subst (Counts q.counted) (sym (entries_add r.log part)) (part_counts p.counted q.counted (entries_in r.log) part r.counts further.counted);
     }
 
+-- a line that spells the next entry, which the machine may give
+pub spelled_comes : (rules : RuleSet) (size : ℕ) (at next : NumberedMoment) (line rest behind : List ℕ) (entry : Entry) → first_line rest ≡ Some (line, behind) → SpellsEntry line (at.count + 1) entry → StepsTo (table_of rules) at (EntryPart entry) next → NextPart rules size at rest (EntryPart entry) next behind
+spelled_comes rules size at next line rest behind entry cut spells steps = record {
+  fits = record { event = spells.event; reply = spells.reply; fits = spells.fits };
+  within = subst (λ (z : NumberedMoment). z.count ≤ 16777216) (sym steps.2) spells.numbered.1;
+  steps = steps;
+  is = first_line-splits rest line behind cut ∙ ap (λ (z : List ℕ). z ++ 10 ∷ behind) spells.is ∙ sym (entry_line_is (at.count + 1) entry behind);
+}
+
 -- a good line is the next entry
 pub entry_further : (rules : RuleSet) (size : ℕ) (p q : Position) (line rest behind : List ℕ) → first_line rest ≡ Some (line, behind) → GoodLine (table_of rules) line p q → IsFurther rules size p rest q behind
 entry_further rules size p q line rest behind cut good =
-    let text = entry_text (p.number + 1) good.entry.0 good.entry.1 in
-    record {
-      part = EntryPart good.entry;
-      comes = record {
-        fits = record { event = good.spells.event; reply = good.spells.reply; fits = good.spells.fits };
-        within = subst (λ (n : ℕ). n ≤ 16777216) (sym good.number) good.spells.numbered.1;
-        steps = (q.state, good.answers, stand_is (stand_of q) q.state _ _ refl good.spends good.number);
-        is = first_line-splits rest line behind cut ∙ ap (λ (z : List ℕ). z ++ 10 ∷ behind) good.spells.is ∙ sym (append_assoc text (10 ∷ []) behind);
-      };
-      counted = good.counted;
-    }
-  where
-    stand_is : (at : NumberedMoment) (s : State) (spent count : ℕ) → at.moment.state ≡ s → at.moment.spent ≡ spent → at.count ≡ count → at ≡ record { moment = record { state = s; spent = spent }; count = count }
-    stand_is at s spent count state moves number = λ i. record { moment = record { state = state i; spent = moves i }; count = number i }
+    let comes = spelled_comes rules size (stand_of p) (stand_of q) line rest behind good.entry cut good.spells (q.state, good.answers, λ i. record { moment = record { state = q.state; spent = good.spends i }; count = good.number i }) in
+    record { part = EntryPart good.entry; comes = comes; counted = good.counted }
 
 -- a base is that of the run's state
 pub base_further : (rules : RuleSet) (size : ℕ) (p : Position) (rest behind : List ℕ) (base : Base) → p.number ≤ 16777216 → base ≡ base_of p.number (stand_of p).moment → rest ≡ base_text rules size base ++ behind → IsFurther rules size p rest p behind
@@ -136,12 +124,15 @@ damaged_line bytes rules size p rest line r line_is other damage last before =
       looked_at = before;
     }
 
-damaged_number : (bytes text behind : List ℕ) (rules : RuleSet) (size : ℕ) (p : Position) (rest : List ℕ) (line : ℕ) → IsPositionAfter bytes rules size p rest → ((good : List ℕ) → bytes ≡ good ++ rest → IsLineBehind line good) → first_line rest ≡ Some (text, behind) → BadNumber text p → IsMetBehind bytes p.number (OutOfOrder line)
-damaged_number bytes text behind rules size p rest line r line_is cut bad last before =
-    record {
+-- what the check of a line finds is the damage of the bytes
+pub damaged : (bytes text behind : List ℕ) (rules : RuleSet) (size : ℕ) (p q : Position) (rest : List ℕ) (found : AuditFault) (line : ℕ) → IsPositionAfter bytes rules size p rest → ((good : List ℕ) → bytes ≡ good ++ rest → IsLineBehind line good) → (BeginsBase rest → ⊥) → first_line rest ≡ Some (text, behind) → LineJudged (table_of rules) text line p q (Err found) → IsMetBehind bytes p.number found
+damaged bytes text behind rules size p q rest (NotALine at) line r line_is other cut (same, none) =
+    damaged_line bytes rules size p rest at r (λ good e. same ∙ line_is good e) other (rw cut none)
+damaged bytes text behind rules size p q rest (OutOfOrder at) line r line_is other cut (same, bad) =
+    λ last before. record {
       is = record {
         at = beginning bytes rules size p rest r;
-        line_is = line_is r.follows.good r.follows.splits;
+        line_is = same ∙ line_is r.follows.good r.follows.splits;
         number = bad.number;
         entry = bad.entry;
         comes = record { line = text; more = behind; is = cut; spells = bad.spells };
@@ -149,53 +140,30 @@ damaged_number bytes text behind rules size p rest line r line_is cut bad last b
       };
       looked_at = before;
     }
-
-damaged_reply : (bytes text behind : List ℕ) (rules : RuleSet) (size : ℕ) (p : Position) (rest : List ℕ) (line : ℕ) → IsPositionAfter bytes rules size p rest → ((good : List ℕ) → bytes ≡ good ++ rest → IsLineBehind line good) → first_line rest ≡ Some (text, behind) → BadReply (table_of rules) text p → IsMetBehind bytes p.number (NotTheMachines line)
-damaged_reply bytes text behind rules size p rest line r line_is cut bad last before =
-    record {
+damaged bytes text behind rules size p q rest (NotTheMachines at) line r line_is other cut (same, bad) =
+    λ last before. record {
       is = record {
         at = beginning bytes rules size p rest r;
-        line_is = line_is r.follows.good r.follows.splits;
+        line_is = same ∙ line_is r.follows.good r.follows.splits;
         entry = bad.entry;
         comes = record { line = text; more = behind; is = cut; spells = bad.spells };
         damage = bad.never;
       };
       looked_at = before;
     }
-
--- what the check of a line finds is the damage of the bytes
-pub damaged : (bytes text behind : List ℕ) (rules : RuleSet) (size : ℕ) (p q : Position) (rest : List ℕ) (found : AuditFault) (line : ℕ) → IsPositionAfter bytes rules size p rest → ((good : List ℕ) → bytes ≡ good ++ rest → IsLineBehind line good) → (BeginsBase rest → ⊥) → first_line rest ≡ Some (text, behind) → LineJudged (table_of rules) text line p q (Err found) → IsMetBehind bytes p.number found
-damaged bytes text behind rules size p q rest (NotALine at) line r line_is other cut (same, none) =
-    damaged_line bytes rules size p rest at r (λ good e. same ∙ line_is good e) other (subst (λ (found : Option (List ℕ × List ℕ)). HasNoEntry rest found) (sym cut) none)
-damaged bytes text behind rules size p q rest (OutOfOrder at) line r line_is other cut (same, bad) =
-    damaged_number bytes text behind rules size p rest at r (λ good e. same ∙ line_is good e) cut bad
-damaged bytes text behind rules size p q rest (NotTheMachines at) line r line_is other cut (same, bad) =
-    damaged_reply bytes text behind rules size p rest at r (λ good e. same ∙ line_is good e) cut bad
-damaged bytes text behind rules size p q rest BadHeader line r line_is other cut judged = absurd judged
-damaged bytes text behind rules size p q rest (BadBase at) line r line_is other cut judged = absurd judged
-damaged bytes text behind rules size p q rest Read line r line_is other cut judged = absurd judged
 damaged bytes text behind rules size p q rest Memory line r line_is other cut judged = tt
+damaged bytes text behind rules size p q rest fault line r line_is other cut judged = absurd judged
 
 -- and a base that is not that of the run's state
-pub damaged_base : (bytes : List ℕ) (rules : RuleSet) (size : ℕ) (p : Position) (rest wanted : List ℕ) (base : Base) (line len : ℕ) → IsPositionAfter bytes rules size p rest → BeginsBase rest → base ≡ base_of p.number (stand_of p).moment → wanted ≡ base_text rules size base → PartAt wanted rest len → ((good : List ℕ) → bytes ≡ good ++ rest → IsLineBehind line (good ++ take len rest)) → IsMetBehind bytes p.number (BadBase line)
-damaged_base bytes rules size p rest wanted base line len r begins is text parted line_is last before =
-    let whole : wanted ≡ base_text rules (size_of r.follows.opening) (base_of p.number (stand_of p).moment) =
-    text ∙ ap (λ (n : ℕ). base_text rules n base) (sym r.size_is) ∙ ap (base_text rules (size_of r.follows.opening)) is in
-    let parting = parted.parting in
+pub damaged_base : (bytes : List ℕ) (rules : RuleSet) (size : ℕ) (p : Position) (rest : List ℕ) (line len : ℕ) → IsPositionAfter bytes rules size p rest → BeginsBase rest → PartAt (base_text rules size (base_of p.number (stand_of p).moment)) rest len → ((good : List ℕ) → bytes ≡ good ++ rest → IsLineBehind line (good ++ take len rest)) → IsMetBehind bytes p.number (BadBase line)
+damaged_base bytes rules size p rest line len r begins parted line_is last before =
+    let here = subst (λ (n : ℕ). PartAt (base_text rules n (base_of p.number (stand_of p).moment)) rest len) (sym r.size_is) parted in
     record {
       is = inr (record {
         at = beginning bytes rules size p rest r;
         begins = begins;
-        parting = record {
-          common = parting.common;
-          missing = parting.missing;
-          more = parting.more;
-          wanted = sym whole ∙ parting.wanted;
-          had = parting.had;
-          some = parting.some;
-          apart = parting.apart;
-        };
-        line_is = subst (λ (c : List ℕ). IsLineBehind line (r.follows.good ++ c)) parted.common_is (line_is r.follows.good r.follows.splits);
+        parting = here.parting;
+        line_is = subst (λ (c : List ℕ). IsLineBehind line (r.follows.good ++ c)) here.common_is (line_is r.follows.good r.follows.splits);
       });
       looked_at = before;
     }

@@ -1,5 +1,5 @@
 -- How far a replay of the first entries is, and its result at the end.
-use Rattle.auditor.proofs.Prelude.{◌≡◌, ℕ, ◌+◌, ◌<◌, ◌≤◌, ◌⊎◌, true, false, List, [], Option, None, Some, Result, Ok, Err, refl, sym, ap, subst, ◌∙◌, ⊎_elim, arith, rules, IfOk, true≢false, EpochStart, RuleSet, LogPart, EntryPart, BasePart, table_of, AuditFault, Memory, ReplayedRun, ReplayFault, Judged, TooFew, Forgotten, TranscriptCursor, count_after, Position, stand_of, IsPositionAfter, EndsAt, IsStateAfter, HasTooFew, IsReplayFault, IsAskedBeyond, IsMetBehind, IsMetFirst, IsOpened, IsAskedWithin, IsLongEnough, falls_short, IsPassed}
+use Rattle.auditor.proofs.Prelude.{◌≡◌, ℕ, ◌+◌, ◌<◌, ◌≤◌, ◌⊎◌, true, false, List, [], Option, None, Some, Result, Ok, Err, refl, sym, ap, ◌∙◌, ⊎_elim, arith, rules, IfOk, true≢false, EpochStart, RuleSet, LogPart, EntryPart, BasePart, table_of, AuditFault, Memory, ReplayedRun, ReplayFault, Judged, TooFew, Forgotten, TranscriptCursor, count_after, Position, stand_of, IsPositionAfter, EndsAt, IsStateAfter, IsReplayFault, IsAskedBeyond, IsMetBehind, IsOpened, IsAskedWithin, IsLongEnough, falls_short, IsPassed}
 use Rattle.std.specs.Prelude.{IfErr}
 use Rattle.auditor.proofs.AuditPositions.{all_good}
 use Rattle.auditor.proofs.Steps.{step_count}
@@ -17,14 +17,9 @@ within_more (Some n) entries next more short = let below : entries < n = search 
 pub further_within : (old new : TranscriptCursor) (rest behind : List ℕ) (last : Option ℕ) → falls_short last old.audit.number ≡ true → IsPassed old new rest behind → IsAskedWithin last new.audit.number
 further_within old new rest behind last short p =
     let count : new.audit.number ≡ count_after old.audit.number p.further.part = step_count (table_of old.rules) (stand_of old.audit) (stand_of new.audit) p.further.part p.further.comes.steps in
-    let more = count_more old.audit.number p.further.part in
-    within_more last old.audit.number new.audit.number (omega (arith, count, more)) short
+    within_more last old.audit.number new.audit.number (omega (arith, count, count_more old.audit.number p.further.part)) short
 
 -- ---- faults
-
-pub first_fault : (bytes : List ℕ) (last : Option ℕ) (fault : AuditFault) → IsMetFirst bytes fault → IsReplayFault bytes last (Judged fault)
-first_fault bytes last Memory met = tt
-first_fault bytes last damage met = met last
 
 comes_before : (last : Option ℕ) (entries : ℕ) → falls_short last entries ≡ true → IsAskedBeyond last entries
 comes_before None entries short = tt
@@ -55,15 +50,7 @@ pub ended : (bytes : List ℕ) (rules : RuleSet) (size : ℕ) (p : Position) (re
     → IfOk result (λ reached. (reached.rules ≡ rules) × (reached.judge ≡ p.state) × IsLongEnough last p.number) → IfOk result (λ reached. IsStateAfter bytes last reached.rules reached.judge)
 ended bytes rules size p rest last (Err fault) r within stop given = tt
 ended bytes rules size p rest last (Ok reached) r within stop (same, state, enough) =
-    let at : IsStateAfter bytes last rules reached.judge = record {
-      log = r.log;
-      end = stand_of p;
-      rest = rest;
-      follows = r.follows;
-      ends = ends_at p rest last within enough stop;
-      state = state;
-    } in
-    subst (λ (set : RuleSet). IsStateAfter bytes last set reached.judge) (sym same) at
+    rw same (record { log = r.log; end = stand_of p; rest = rest; follows = r.follows; ends = ends_at p rest last within enough stop; state = state })
 
 all_read : (rest : List ℕ) (last : Option ℕ) (entries asked : ℕ) → last ≡ Some asked → entries < asked → (rest ≡ []) ⊎ (falls_short last entries ≡ false) → rest ≡ []
 all_read rest last entries asked is fewer stop =
@@ -74,15 +61,13 @@ pub ended_early : (bytes : List ℕ) (rules : RuleSet) (size : ℕ) (p : Positio
     → IfErr result (λ fault. (asked : ℕ) × (fault ≡ TooFew asked p.number) × (last ≡ Some asked) × (p.number < asked)) → IfErr result (IsReplayFault bytes last)
 ended_early bytes rules size p rest last (Ok reached) r stop given = tt
 ended_early bytes rules size p rest last (Err fault) r stop (asked, is, last_is, fewer) =
-    let none = all_read rest last p.number asked last_is fewer stop in
-    let few : HasTooFew bytes last asked p.number = record {
+    rw is (record {
       last_is = last_is;
       fewer = fewer;
       rules = rules;
       opening = r.follows.opening;
       log = r.log;
       end = stand_of p;
-      transcript = all_good bytes rules r.log (stand_of p) rest r.follows none;
+      transcript = all_good bytes rules r.log (stand_of p) rest r.follows (all_read rest last p.number asked last_is fewer stop);
       entries_are = refl;
-    } in
-    subst (IsReplayFault bytes last) (sym is) few
+    })

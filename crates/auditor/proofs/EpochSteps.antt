@@ -1,10 +1,10 @@
 -- The epochs of the entries so far, entry by entry.
-use Rattle.auditor.proofs.Prelude.{◌≡◌, ℕ, ◌+◌, List, [], ◌∷◌, ◌++◌, Option, None, Some, All, map, refl, sym, ap, ap₂, subst, ◌∙◌, append_assoc, append-nil, arith, map-append, Base, EpochStart, Reply, Accepted, RuleSet, State, LogPart, EntryPart, BasePart, NumberedMoment, entries_in, Entry, Moment, Epoch, epoch_at, epochs_by, epochs_from, open_at, Answers, spent_after, table_of, weight_of, IsPath, epochs_are_bounded, cost_by, CostedEpoch, TranscriptCursor, NextPart, Position, IsFurther, counted_part, position_at, stand_of, IsPositionAfter, IsOpened, IsPassed, AreCostedEpochs, IsNextCost, IsWithinItsBound, costs_along, costs_by, costs_in, epochs_in, first_epoch, rows_at, rows_by, rounds_along, rounds_in_rows, rounds_ended_by, start_at_part, log_at, KeepsCount, max_entries, ◌≤◌}
+use Rattle.auditor.proofs.Prelude.{◌≡◌, ℕ, ◌+◌, List, [], ◌∷◌, ◌++◌, Option, None, Some, All, map, refl, sym, ap, ap₂, subst, ◌∙◌, append_assoc, append-nil, arith, map-append, Base, EpochStart, Reply, Accepted, RuleSet, State, LogPart, EntryPart, BasePart, NumberedMoment, entries_in, Entry, Moment, Epoch, epochs_by, epochs_from, open_at, Answers, spent_after, table_of, weight_of, IsPath, epochs_are_bounded, cost_by, CostedEpoch, TranscriptCursor, NextPart, Position, IsFurther, counted_part, position_at, stand_of, IsPositionAfter, IsOpened, IsPassed, AreCostedEpochs, IsNextCost, IsWithinItsBound, costs_along, costs_by, costs_in, epochs_in, first_epoch, rows_at, rows_by, rounds_along, rounds_in_rows, rounds_ended_by, start_at_part, log_at, KeepsCount, max_entries, ◌≤◌}
 use Rattle.round_counter.specs.Counting.{log_after, start_after}
 use Rattle.round_laws.specs.Rounds.{rounds_in}
 use Rattle.judged_rounds.specs.declared.count.JudgedRounds.{JudgedRounds}
 use Rattle.judged_rounds.specs.Following.{CountsIn}
-use Rattle.auditor.proofs.EpochRounds.{Stage, rounds_over, rounds_next}
+use Rattle.auditor.proofs.EpochRounds.{Stage}
 use Rattle.auditor.proofs.TextEnds.{told_comes}
 use Rattle.auditor.proofs.AuditPositions.{entries_add, reached_more}
 use Rattle.auditor.proofs.Spent.{is_table, is_charged, opens_in_state, opens_within}
@@ -17,32 +17,17 @@ moment s n = record { state = s; spent = n }
 
 -- ---- what a reply makes of the rows
 
-rows_over : (reply : Reply) (number : ℕ) (s : State) (cost : Option ℕ) (rounds : ℕ) (row : CostedEpoch) → epochs_in (rows_by reply number s cost rounds row).0 ≡ (epochs_by reply number s row.epoch).0
-rows_over Accepted number s cost rounds row = refl
-rows_over reply number s cost rounds row = refl
-
-row_next : (reply : Reply) (number : ℕ) (s : State) (cost : Option ℕ) (rounds : ℕ) (row : CostedEpoch) → (rows_by reply number s cost rounds row).1.epoch ≡ (epochs_by reply number s row.epoch).1
-row_next Accepted number s cost rounds row = refl
-row_next reply number s cost rounds row = refl
-
-costs_last : (past : List CostedEpoch) (row : CostedEpoch) → costs_in (past ++ row ∷ []) ≡ costs_in past ++ row.cost ∷ []
-costs_last past row = map-append (λ (x : CostedEpoch). x.cost) past (row ∷ [])
+rows_turn : (reply : Reply) (number : ℕ) (s : State) (cost : Option ℕ) (rounds : ℕ) (row : CostedEpoch)
+    → (epochs_in (rows_by reply number s cost rounds row).0 ≡ (epochs_by reply number s row.epoch).0) × ((rows_by reply number s cost rounds row).1.epoch ≡ (epochs_by reply number s row.epoch).1) × (rounds_in_rows (rows_by reply number s cost rounds row).0 ≡ rounds_ended_by reply row.rounds) × ((rows_by reply number s cost rounds row).1.rounds ≡ rounds)
+rows_turn Accepted number s cost rounds row = (refl, refl, refl, refl)
+rows_turn reply number s cost rounds row = (refl, refl, refl, refl)
 
 -- if the last epoch goes on, nothing more was paid
-costs_same : (past : List CostedEpoch) (row next : CostedEpoch) → next.cost ≡ row.cost → costs_in ((past ++ []) ++ next ∷ []) ≡ costs_in (past ++ row ∷ []) ++ []
-costs_same past row next same =
-    ap (λ (l : List CostedEpoch). costs_in (l ++ next ∷ [])) (append-nil past)
-    ∙ costs_last past next
-    ∙ ap (λ (c : Option ℕ). costs_in past ++ c ∷ []) same
-    ∙ sym (costs_last past row)
-    ∙ sym (append-nil (costs_in (past ++ row ∷ [])))
-
 rows_cost : (reply : Reply) (number : ℕ) (s : State) (cost : Option ℕ) (rounds paid : ℕ) (past : List CostedEpoch) (row : CostedEpoch) → (reply ≡ Accepted → cost ≡ Some paid)
     → costs_in ((past ++ (rows_by reply number s cost rounds row).0) ++ (rows_by reply number s cost rounds row).1 ∷ []) ≡ costs_in (past ++ row ∷ []) ++ costs_by reply paid
 rows_cost Accepted number s cost rounds paid past row told =
-    costs_last (past ++ row ∷ []) (record { epoch = epoch_at number s; cost = cost; rounds = rounds })
-    ∙ ap (λ (c : Option ℕ). costs_in (past ++ row ∷ []) ++ c ∷ []) (told refl)
-rows_cost reply number s cost rounds paid past row told = costs_same past row (rows_by reply number s cost rounds row).1 refl
+    map-append (λ (x : CostedEpoch). x.cost) (past ++ row ∷ []) ((rows_by Accepted number s cost rounds row).1 ∷ []) ∙ ap (λ (c : Option ℕ). costs_in (past ++ row ∷ []) ++ c ∷ []) (told refl)
+rows_cost reply number s cost rounds paid past row told = simp (append-nil, map-append)
 
 -- ---- along a run
 
@@ -94,10 +79,6 @@ listed_start bytes rules size begun p rest row it o is none zero no_round ruled 
     } in
     subst (λ (q : Position). IsListed bytes rules size q rest [] row it) (sym o.opening) at
 
--- the entries of a path with one stage more
-entries_more : (path : List Stage) (step : Stage) → entries (path ++ step ∷ []) ≡ entries path ++ step.0 ∷ []
-entries_more path step = map-append (λ (x : Stage). x.0) path (step ∷ [])
-
 -- one entry more
 listed_told : (bytes : List ℕ) (rules : RuleSet) (size : ℕ) (p q : Position) (rest behind : List ℕ) (past next : List CostedEpoch) (row after : CostedEpoch) (cost : Option ℕ) (rounds : ℕ) (it is' : JudgedRounds) (entry : Entry) → IsListed bytes rules size p rest past row it → NextPart rules size (stand_of p) rest (EntryPart entry) (stand_of q) behind → q.counted ≡ counted_part p.counted (EntryPart entry)
     → IsNextCost rules p.state rest cost → next ≡ past ++ (rows_by entry.1 q.number q.state cost rounds row).0 → after ≡ (rows_by entry.1 q.number q.state cost rounds row).1 → rounds ≡ is'.counter.rounds → is'.rules ≡ it.rules → Counted p q (EntryPart entry) it is' → IsListed bytes rules size q behind next after is'
@@ -106,45 +87,29 @@ listed_told bytes rules size p q rest behind past next row after cost rounds it 
     let t = table_of rules in
     let step : Stage = (entry, q.state) in
     let stand : stand_of q ≡ _ = comes.steps.2 in
-    let state = ap (λ (x : NumberedMoment). x.moment.state) stand in
     let spent : q.spent ≡ spent_after p.spent entry.1 = ap (λ (x : NumberedMoment). x.moment.spent) stand in
     let number : q.number ≡ p.number + 1 = ap (λ (x : NumberedMoment). x.count) stand in
-    let answers : Answers t p.state p.spent entry.0 entry.1 q.state = subst (λ (s : State). Answers t p.state p.spent entry.0 entry.1 s) (sym state) comes.steps.1 in
+    let answers : Answers t p.state p.spent entry.0 entry.1 q.state = subst (λ (s : State). Answers t p.state p.spent entry.0 entry.1 s) (sym (ap (λ (x : NumberedMoment). x.moment.state) stand)) comes.steps.1 in
     let more = count l.present.0 l.present.1 l.counts l.few in
     let turned = rows_by entry.1 q.number q.state cost rounds row in
-    let turn : ℕ → List Epoch × Epoch = λ n. epochs_by entry.1 n q.state row.epoch in
-    let over : epochs_in next ≡ epochs_in past ++ (turn q.number).0 =
-    ap epochs_in next_is ∙ map-append (λ (x : CostedEpoch). x.epoch) past turned.0 ∙ ap (λ (x : List Epoch). epochs_in past ++ x) (rows_over entry.1 q.number q.state cost rounds row) in
-    let now : after.epoch ≡ (turn q.number).1 = ap (λ (x : CostedEpoch). x.epoch) after_is ∙ row_next entry.1 q.number q.state cost rounds row in
-    let paid = cost_by rules p.state entry.0 in
+    let turn = rows_turn entry.1 q.number q.state cost rounds row in
+    let over : epochs_in next ≡ epochs_in past ++ (epochs_by entry.1 q.number q.state row.epoch).0 = rw (next_is, map-append (λ (x : CostedEpoch). x.epoch) past turned.0, turn.0) refl in
+    let now : after.epoch ≡ (epochs_by entry.1 q.number q.state row.epoch).1 = ap (λ (x : CostedEpoch). x.epoch) after_is ∙ turn.1 in
     let told = ahead (p.number + 1) entry (told_comes rules size (stand_of p) rest entry (stand_of q) behind comes) in
-    let ended = rounds_ended_by entry.1 (rounds_in t l.present.0 l.present.1) in
-    let here : rounds_in_rows next ≡ rounds_in_rows past ++ ended =
-    ap rounds_in_rows next_is ∙ map-append (λ (x : CostedEpoch). x.rounds) past turned.0
-    ∙ ap (λ (x : List ℕ). rounds_in_rows past ++ x) (rounds_over entry.1 q.number q.state cost rounds row ∙ ap (rounds_ended_by entry.1) (present_rounds rules l.present.0 l.present.1 p.state row it l.rounds_now l.by_rules l.counts)) in
-    let on : (xs : List Stage) → l.path ++ step ∷ xs ≡ (l.path ++ step ∷ []) ++ xs = λ xs. sym (append_assoc l.path (step ∷ []) xs) in
+    let paid : costs_in (next ++ after ∷ []) ≡ costs_in (past ++ row ∷ []) ++ costs_by entry.1 (cost_by rules p.state entry.0) =
+    ap₂ (λ (x : List CostedEpoch) (r : CostedEpoch). costs_in (x ++ r ∷ [])) next_is after_is ∙ rows_cost entry.1 q.number q.state cost rounds _ past row told in
+    let here : rounds_in_rows next ≡ rounds_in_rows past ++ rounds_ended_by entry.1 (rounds_in t l.present.0 l.present.1) =
+    rw (next_is, map-append (λ (x : CostedEpoch). x.rounds) past turned.0, turn.2, present_rounds rules l.present.0 l.present.1 p.state row it l.rounds_now l.by_rules l.counts) refl in
     record {
       reached = reached_more bytes rules size p q rest behind l.reached (record { part = EntryPart entry; comes = comes; counted = counted });
       path = l.path ++ step ∷ [];
-      entries_are = entries_add l.reached.log (EntryPart entry) ∙ ap (λ (x : List Entry). x ++ entry ∷ []) l.entries_are ∙ sym (entries_more l.path step);
-      goes_on = λ xs path. subst (IsPath t start.moment) (on xs) (l.goes_on (step ∷ xs) (answers, subst (λ (n : ℕ). IsPath t (moment q.state n) xs) spent path));
-      epochs = λ xs.
-          ap₂ (λ (x : List Epoch) (e : Epoch). x ++ epochs_from (q.number + 1) e xs) over now
-          ∙ append_assoc (epochs_in past) (turn q.number).0 (epochs_from (q.number + 1) (turn q.number).1 xs)
-          ∙ ap (λ (n : ℕ). epochs_in past ++ ((turn n).0 ++ epochs_from (n + 1) (turn n).1 xs)) number
-          ∙ l.epochs (step ∷ xs)
-          ∙ ap (epochs_from (start.count + 1) (first_epoch l.reached.follows.opening start)) (on xs);
-      costs = λ xs.
-          ap₂ (λ (x : List CostedEpoch) (r : CostedEpoch). costs_in (x ++ r ∷ []) ++ costs_along (cost_by rules) q.state xs) next_is after_is
-          ∙ ap (λ (x : List (Option ℕ)). x ++ costs_along (cost_by rules) q.state xs) (rows_cost entry.1 q.number q.state cost rounds paid past row told)
-          ∙ append_assoc (costs_in (past ++ row ∷ [])) (costs_by entry.1 paid) (costs_along (cost_by rules) q.state xs)
-          ∙ l.costs (step ∷ xs)
-          ∙ ap (λ (x : List Stage). None ∷ costs_along (cost_by rules) start.moment.state x) (on xs);
+      entries_are = entries_add l.reached.log (EntryPart entry) ∙ ap (λ (x : List Entry). x ++ entry ∷ []) l.entries_are ∙ sym (map-append (λ (x : Stage). x.0) l.path (step ∷ []));
+      goes_on = λ xs path. rw (append_assoc l.path (step ∷ []) xs) (l.goes_on (step ∷ xs) (answers, subst (λ (n : ℕ). IsPath t (moment q.state n) xs) spent path));
+      epochs = λ xs. simp (over, now, number, append_assoc) (l.epochs (step ∷ xs));
+      costs = λ xs. simp (paid, append_assoc) (l.costs (step ∷ xs));
       present = (start_after l.present.0 entry.1 q.state, log_after l.present.1 entry.0 entry.1);
-      rounds = λ xs.
-          let rest = rounds_along t (start_after l.present.0 entry.1 q.state) (log_after l.present.1 entry.0 entry.1) xs in
-          ap (λ (x : List ℕ). x ++ rest) here ∙ append_assoc (rounds_in_rows past) ended rest ∙ l.rounds (step ∷ xs) ∙ ap (rounds_along t start.moment.state []) (on xs);
-      rounds_now = ap (λ (x : CostedEpoch). x.rounds) after_is ∙ rounds_next entry.1 q.number q.state cost rounds row ∙ rounds_is;
+      rounds = λ xs. simp (here, append_assoc) (l.rounds (step ∷ xs));
+      rounds_now = ap (λ (x : CostedEpoch). x.rounds) after_is ∙ turn.3 ∙ rounds_is;
       by_rules = ruled ∙ l.by_rules;
       counts = more.0;
       few = more.1;
@@ -155,23 +120,18 @@ listed_kept : (bytes : List ℕ) (rules : RuleSet) (size : ℕ) (p q : Position)
 listed_kept bytes rules size p q rest behind past next row after rounds it is' base l comes counted next_is after_is rounds_is ruled count =
     let same = next_is ∙ append-nil past in
     let stays = comes.steps.1 in
+    let number : q.number ≡ p.number = ap (λ (x : NumberedMoment). x.count) stays in
+    let state : q.state ≡ p.state = ap (λ (x : NumberedMoment). x.moment.state) stays in
     let more = count l.present.0 l.present.1 l.counts l.few in
     record {
       reached = reached_more bytes rules size p q rest behind l.reached (record { part = BasePart base; comes = comes; counted = counted });
       path = l.path;
       entries_are = entries_add l.reached.log (BasePart base) ∙ append-nil (entries_in l.reached.log) ∙ l.entries_are;
       goes_on = λ xs path. l.goes_on xs (subst (λ (x : NumberedMoment). IsPath (table_of rules) x.moment xs) stays path);
-      epochs = λ xs.
-          ap₂ (λ (x : List CostedEpoch) (r : CostedEpoch). epochs_in x ++ epochs_from (q.number + 1) r.epoch xs) same after_is
-          ∙ ap (λ (x : NumberedMoment). epochs_in past ++ epochs_from (x.count + 1) row.epoch xs) stays
-          ∙ l.epochs xs;
-      costs = λ xs.
-          ap (λ (x : List (Option ℕ)). x ++ costs_along (cost_by rules) q.state xs)
-          (ap₂ (λ (x : List CostedEpoch) (r : CostedEpoch). costs_in (x ++ r ∷ [])) same after_is ∙ costs_last past (record row { rounds = rounds }) ∙ sym (costs_last past row))
-          ∙ ap (λ (x : NumberedMoment). costs_in (past ++ row ∷ []) ++ costs_along (cost_by rules) x.moment.state xs) stays
-          ∙ l.costs xs;
+      epochs = λ xs. rw (same, after_is, number) (l.epochs xs);
+      costs = λ xs. simp (same, after_is, state, map-append) (simp map-append at (l.costs xs));
       present = l.present;
-      rounds = λ xs. ap (λ (x : List CostedEpoch). rounds_in_rows x ++ rounds_along (table_of rules) l.present.0 l.present.1 xs) same ∙ l.rounds xs;
+      rounds = λ xs. rw same (l.rounds xs);
       rounds_now = ap (λ (x : CostedEpoch). x.rounds) after_is ∙ rounds_is;
       by_rules = ruled ∙ l.by_rules;
       counts = more.0;
@@ -219,16 +179,9 @@ listed_all bytes rules size p rest past all row it l none is =
         entries = l.entries_are;
         is_path = subst (IsPath (table_of rules) good.start.moment) whole (l.goes_on [] tt);
       };
-      epochs =
-          ap epochs_in is ∙ map-append (λ (x : CostedEpoch). x.epoch) past (row ∷ []) ∙ l.epochs []
-          ∙ ap (epochs_from (good.start.count + 1) (first_epoch f.opening good.start)) whole;
-      costs =
-          ap costs_in is ∙ sym (append-nil (costs_in (past ++ row ∷ []))) ∙ l.costs []
-          ∙ ap (λ (x : List Stage). None ∷ costs_along (cost_by rules) good.start.moment.state x) whole;
-      rounds =
-          ap rounds_in_rows is ∙ map-append (λ (x : CostedEpoch). x.rounds) past (row ∷ [])
-          ∙ ap (λ (n : ℕ). rounds_in_rows past ++ n ∷ []) (present_rounds rules l.present.0 l.present.1 p.state row it l.rounds_now l.by_rules l.counts)
-          ∙ l.rounds [] ∙ ap (rounds_along (table_of rules) good.start.moment.state []) whole;
+      epochs = rw (is, map-append (λ (x : CostedEpoch). x.epoch) past (row ∷ [])) (rw whole at (l.epochs []));
+      costs = ap costs_in is ∙ sym (append-nil (costs_in (past ++ row ∷ []))) ∙ (rw whole at (l.costs []));
+      rounds = rw (is, map-append (λ (x : CostedEpoch). x.rounds) past (row ∷ []), present_rounds rules l.present.0 l.present.1 p.state row it l.rounds_now l.by_rules l.counts) (rw whole at (l.rounds []));
     }
 
 -- each epoch is within its bound
@@ -247,6 +200,4 @@ pub listed_on : (bytes : List ℕ) (old new : TranscriptCursor) (rest behind : L
     → ((part : LogPart) (start : State) (log : List Entry) → KeepsCount old new rest behind part start log it is')
     → IsListed bytes new.rules new.size new.audit behind next after is'
 listed_on bytes old new rest behind past next row after cost rounds it is' l p ahead turn rounds_is ruled small count =
-    let more = listed_more bytes old.rules old.size old.audit new.audit rest behind past next row after cost rounds it is' l p.further ahead turn rounds_is ruled (λ part comes counted start log was few. count part start log comes counted was few small) in
-    let ruled = subst (λ (r : RuleSet). IsListed bytes r old.size new.audit behind next after is') (sym p.rules) more in
-    subst (λ (n : ℕ). IsListed bytes new.rules n new.audit behind next after is') (sym p.size) ruled
+    rw (p.rules, p.size) (listed_more bytes old.rules old.size old.audit new.audit rest behind past next row after cost rounds it is' l p.further ahead turn rounds_is ruled (λ part comes counted start log was few. count part start log comes counted was few small))

@@ -23,6 +23,5 @@ pub mod EpochSteps
 mod NextCosts
 pub mod EpochRounds
 mod EpochBounds
-mod EpochCosts
 pub mod TranscriptEnds
 pub mod IncrementalAudits

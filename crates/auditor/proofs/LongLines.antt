@@ -1,9 +1,9 @@
 -- Lines that are longer than any line of a transcript: what they break, whatever follows them.
-use Rattle.auditor.proofs.Prelude.{◌≡◌, ℕ, ◌+◌, ◌*◌, ◌<◌, ◌≤◌, Bool, true, false, cond, List, [], ◌∷◌, ◌++◌, Option, None, Some, length, take, drop, refl, sym, ap, ◌∙◌, arith, codes, nat_lt, AllByRecursion, length-append, take-append-drop, take-append-le, take_all, RuleSet, Hh, Manne, rules_word, number_text, base_head, header_text, sizes_text, lines_with_ends, BaseLine, Head, IsBaseLine, base_line_text, BreaksAt, AreCounts, BaseNumbers, Header, SpellsHeader, entry_short, first_line, first_line-is, no_first_line, IsFree, TranscriptCursor, IsMetAt, IsMetFirst, BeginsBase, HasBadHeader, HasNoEntry, line_feeds, BadHeader, BadBase, NotALine}
+use Rattle.auditor.proofs.Prelude.{◌≡◌, ℕ, ◌+◌, ◌*◌, ◌<◌, ◌≤◌, Bool, true, false, cond, List, [], ◌∷◌, ◌++◌, Option, None, Some, length, take, drop, refl, sym, ap, ◌∙◌, arith, codes, nat_lt, AllByRecursion, length-append, take-append-drop, take-append-le, take_all, RuleSet, Hh, Manne, rules_word, number_text, base_head, sizes_text, lines_with_ends, BaseLine, Head, IsBaseLine, base_line_text, BreaksAt, AreCounts, BaseNumbers, Header, SpellsHeader, entry_short, first_line, first_line-is, no_first_line, IsFree, TranscriptCursor, IsMetAt, IsMetFirst, BeginsBase, HasBadHeader, HasNoEntry, line_feeds, BadHeader, BadBase, NotALine}
 use Rattle.std.proofs.lemmas.Fmt.{length-decimal-le}
 use Rattle.entry_grammar.specs.declared.base_line.BaseLine.TheVariants.{Base, Place, Link}
 use Rattle.line_text.proofs.EventLengths.{name_short, target_short, bool_short, pair_short}
-use Rattle.line_text.specs.EventText.{bool_text, pair_text, target_text}
+use Rattle.line_text.specs.EventText.{pair_text}
 use Rattle.line_text.specs.ReplyText.{IsCountValue, field_text}
 use Rattle.line_text.specs.Words.{joined_texts}
 use Rattle.line_text.specs.BaseText.{base_fields}
@@ -24,79 +24,39 @@ sizes_short : (size count : ℕ) → size ≤ 65535 → count ≤ size → lengt
 sizes_short size count few within = by (nat_lt count size)
   where
     by : (b : Bool) → length (cond b (number_text size ++ codes " " ++ number_text count) (number_text size)) ≤ 11
-    by true =
-        omega (arith, size_short size few, size_short count (omega (arith, few, within)), length-append (number_text size) (codes " "), length-append (number_text size ++ codes " ") (number_text count))
+    by true = omega (arith, size_short size few, size_short count (omega (arith, few, within)), length-append {A = ℕ})
     by false = omega (arith, size_short size few)
 
 pub header_short : (line : List ℕ) (header : Header) → SpellsHeader line header → length line ≤ 32
 header_short line header spells =
-    let words = rules_word header.rules in
-    let sizes = sizes_text header.names header.present in
-    let is : length line ≡ length (header_text header.rules header.names header.present) = ap length spells.is in
-    let word = codes "matching " in
-    omega (
-      arith,
-      is,
-      rules_short header.rules,
-      sizes_short header.names header.present spells.few spells.within,
-      length-append word words,
-      length-append (word ++ words) (codes " "),
-      length-append (word ++ words ++ codes " ") sizes,
-    )
+    omega (arith, simp length-append at (ap length spells.is), rules_short header.rules, sizes_short header.names header.present spells.few spells.within)
 
 field_short : (name : List ℕ) (n : ℕ) → length name ≤ 6 → IsCountValue n → length (field_text (name, n)) ≤ 16
 field_short name n short h =
     let digits : length (number_text n) ≤ 10 = length-decimal-le 10 n (omega arith) (omega (arith, h)) (omega (arith, h)) in
     omega (arith, short, digits, length-append name (number_text n))
 
-apart_short : (x y : List ℕ) → length (x ++ codes " " ++ y) ≤ length x + length y + 1
-apart_short x y = omega (arith, length-append x (codes " "), length-append (x ++ codes " ") y)
-
 fields_short : (q : BaseNumbers) → AreCounts q → length (joined_texts field_text (base_fields q.number q.spent q.nodes q.edges)) ≤ 100
 fields_short q f =
-    let one : List ℕ = field_text (codes "", q.number) in
-    let two : List ℕ = field_text (codes "spent=", q.spent) in
-    let three : List ℕ = field_text (codes "nodes=", q.nodes) in
-    let four : List ℕ = field_text (codes "edges=", q.edges) in
-    omega (
+    simp length-append (omega (
       arith,
       field_short (codes "") q.number (omega arith) f.0,
       field_short (codes "spent=") q.spent (omega arith) f.1,
       field_short (codes "nodes=") q.nodes (omega arith) f.2,
       field_short (codes "edges=") q.edges (omega arith) f.3,
-      length-append (codes " ") four,
-      length-append (codes " ") three,
-      length-append (codes " ") two,
-      length-append (codes " " ++ four) [],
-      length-append (codes " " ++ three) ((codes " " ++ four) ++ []),
-      length-append (codes " " ++ two) ((codes " " ++ three) ++ ((codes " " ++ four) ++ [])),
-      length-append one ((codes " " ++ two) ++ ((codes " " ++ three) ++ ((codes " " ++ four) ++ []))),
-    )
+    ))
 
 pub base_line_short : (line : BaseLine) → IsBaseLine line → length (base_line_text line) ≤ 120
-base_line_short (Head rules size) f =
-    let word = codes "matching2 " in
-    omega (arith, rules_short rules, size_short size f, length-append word (rules_word rules), apart_short (word ++ rules_word rules) (number_text size))
+base_line_short (Head rules size) f = simp length-append (omega (arith, rules_short rules, size_short size f))
 base_line_short (Base q) f =
     omega (arith, fields_short q f, length-append (codes "base ") (joined_texts field_text (base_fields q.number q.spent q.nodes q.edges)))
-base_line_short (Place node target flagged) f =
-    let front : List ℕ = codes "node " ++ number_text node in
-    omega (
-      arith,
-      name_short node f.0,
-      target_short target f.1,
-      bool_short flagged,
-      length-append (codes "node ") (number_text node),
-      apart_short front (target_text target),
-      apart_short (front ++ codes " " ++ target_text target) (bool_text flagged),
-    )
+base_line_short (Place node target flagged) f = simp length-append (omega (arith, name_short node f.0, target_short target f.1, bool_short flagged))
 base_line_short (Link edge) f = omega (arith, pair_short edge.0 edge.1 f.0 f.1, length-append (codes "edge ") (pair_text edge.0 edge.1))
 
 lines_short : (lines : List BaseLine) → AllByRecursion IsBaseLine lines → length (lines_with_ends base_line_text lines) ≤ 121 * length lines
 lines_short [] fit = omega arith
 lines_short (line ∷ lines) fit =
-    let text = base_line_text line in
-    omega (arith, base_line_short line fit.0, lines_short lines fit.1, length-append text (10 ∷ []), length-append (text ++ 10 ∷ []) (lines_with_ends base_line_text lines))
+    omega (arith, base_line_short line fit.0, lines_short lines fit.1, length-append {A = ℕ})
 
 -- ---- a line that has not ended
 
@@ -116,18 +76,11 @@ base_less rest more long (m, is) =
 -- ---- a first line that is too long
 
 -- it is neither a header nor the first line of a base
-long_first : (text more : List ℕ) (found : Option (List ℕ × List ℕ)) → first_line text ≡ None → 32 < length text → first_line (text ++ more) ≡ found → HasBadHeader found
+long_first : (text more : List ℕ) (found : Option (List ℕ × List ℕ)) → first_line text ≡ None → 120 < length text → first_line (text ++ more) ≡ found → HasBadHeader found
 long_first text more None none long is = tt
 long_first text more (Some (line, behind)) none long is =
-    let kept = line_kept text more line behind none is in (
-      λ header spells. let short = header_short line header spells in absurd (omega (arith, kept, long, short)),
-      λ rules size few same. head_long rules size few (omega (arith, kept, long)) same,
-    )
-  where
-    head_long : (rules : RuleSet) (size : ℕ) → size ≤ 65535 → 32 < length line → line ≡ base_head rules size → ⊥
-    head_long rules size few far same =
-        let word = codes "matching2 " in
-        omega (arith, far, ap length same, rules_short rules, size_short size few, length-append word (rules_word rules), apart_short (word ++ rules_word rules) (number_text size))
+    let kept = line_kept text more line behind none is in
+    (λ header spells. omega (arith, kept, long, header_short line header spells), λ rules size few same. omega (arith, kept, long, ap length same, base_line_short (Head rules size) few))
 
 pub first_too_long : (text : List ℕ) → first_line text ≡ None → 2097152 < length text → (more : List ℕ) → IsMetFirst (text ++ more) BadHeader
 first_too_long text none long more last = record {
@@ -161,9 +114,6 @@ no_feed_free (Some (line, behind)) bytes cut none = let one = feeds_behind bytes
 
 pub base_too_long : (text rest : List ℕ) (rules : RuleSet) (size number : ℕ) → size ≤ 65535 → first_line text ≡ Some (base_head rules size, rest) → BreaksAt rest number → line_feeds rest < number → 128 * number + 128 ≤ length rest → (more : List ℕ) → IsMetFirst (text ++ more) (BadBase (number + 1))
 base_too_long text rest rules size number few cut b short long more =
-    let feeds = feeds_broken rest number b in
-    let lines = lines_short b.lines b.fit in
     let all = ap length b.is ∙ length-append (lines_with_ends base_line_text b.lines) b.rest in
-    let count = b.number in
     broken (text ++ more) (rest ++ more) rules size number few (first_line-more text more (base_head rules size) rest cut)
-    (long_breaks rest more number b (no_feed_free (first_line b.rest) b.rest refl (omega (arith, feeds, short))) (omega (arith, lines, all, count, long)))
+    (long_breaks rest more number b (no_feed_free (first_line b.rest) b.rest refl (omega (arith, feeds_broken rest number b, short))) (omega (arith, lines_short b.lines b.fit, all, b.number, long)))

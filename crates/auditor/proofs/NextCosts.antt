@@ -11,18 +11,17 @@ use Rattle.auditor.proofs.TextEnds.{entry_once}
 -- no other entry comes than the one that the first line spells
 pub next_cost : (rules : RuleSet) (s : State) (rest : List ℕ) (entry : Entry) (cost : ℕ) → cost ≡ cost_by rules s entry.0 → IsEntryAhead rest (Some entry) → IsNextCost rules s rest (Some cost)
 next_cost rules s rest entry cost is (number, comes) other found there told =
-    let same = entry_once rest number other entry found comes there in
-    ap Some (is ∙ ap (λ (x : Entry). cost_by rules s x.0) same.1)
+    ap Some (is ∙ ap (λ (x : Entry). cost_by rules s x.0) (entry_once rest number other entry found comes there).1)
 
 -- it is no accepted disturbance
 pub no_cost : (rules : RuleSet) (s : State) (rest : List ℕ) (entry : Entry) → (entry.1 ≡ Accepted → ⊥) → IsEntryAhead rest (Some entry) → IsNextCost rules s rest None
 no_cost rules s rest entry other (number, comes) also found there told =
-    let same = entry_once rest number also entry found comes there in
-    absurd (other (ap (λ (x : Entry). x.1) same.1 ∙ told))
+    absurd (other (ap (λ (x : Entry). x.1) (entry_once rest number also entry found comes there).1 ∙ told))
 
 -- nor is one that changes nothing
-pub no_entry : (rules : RuleSet) (s : State) (rest : List ℕ) → IsEntryAhead rest None → IsNextCost rules s rest None
-no_entry rules s rest none number entry comes told = absurd (true≢false (sym (ap changes told) ∙ none number entry comes))
+pub none_cost : (rules : RuleSet) (s : State) (rest : List ℕ) (o : Option Entry) → ((e : Entry) → o ≡ Some e → ⊥) → IsEntryAhead rest o → IsNextCost rules s rest None
+none_cost rules s rest None none ahead = λ number entry comes told. absurd (true≢false (sym (ap changes told) ∙ ahead number entry comes))
+none_cost rules s rest (Some e) none ahead = absurd (none e refl)
 
 -- ---- the test of a line
 
@@ -57,11 +56,5 @@ pub accepted_end : (line : List ℕ) (number : ℕ) (entry : Entry) → SpellsEn
 accepted_end line number (event, reply) spells told =
     let front = number_text number ++ codes " " ++ event_text event in
     let is : line ≡ front ++ codes " = ok" = spells.is ∙ ap (λ r. entry_text number event r) told ∙ append_assoc front (codes " = ") (codes "ok") in
-    let len = ap length is ∙ length-append front (codes " = ok") in
-    let five : length line - 5 ≡ length front = omega (arith, len) in
+    let five : length line - 5 ≡ length front = omega (arith, ap length is, length-append front (codes " = ok")) in
     ap₂ drop five is ∙ drop-append_seam front (codes " = ok")
-
--- of no entry
-pub none_cost : (rules : RuleSet) (s : State) (rest : List ℕ) (o : Option Entry) → ((e : Entry) → o ≡ Some e → ⊥) → IsEntryAhead rest o → IsNextCost rules s rest None
-none_cost rules s rest None none ahead = no_entry rules s rest ahead
-none_cost rules s rest (Some e) none ahead = absurd (none e refl)

@@ -1,8 +1,9 @@
 -- The next entry or base, of which only some bytes may be known.
-use Rattle.auditor.proofs.Prelude.{◌≡◌, ◌≢◌, ℕ, ◌+◌, ◌<◌, ◌≤◌, ◌⊎◌, inl, inr, List, [], ◌∷◌, ◌++◌, Option, None, Some, Err, length, take, drop, refl, sym, ap, subst, ◌∙◌, append_assoc, append-nil, arith, ∥∥₁_elim, props, append_cancel_right, take-append-le, take_all, Base, RuleSet, NumberedMoment, base_of, table_of, base_head, base_text, first_line, BreaksAt, IsShaped, base_lines, BadHeader, BadBase, NotALine, AuditFault, TranscriptCursor, BeginsBase, HasBadHeader, HasNoEntry, SpellsNoHead, SpellsNoHeader, line_feeds, Based, Opens, GoodLine, IsFurther, LineJudged, Position, stand_of, IsMetBehind, IsMetFirst, AreSameUpTo, ArePartedAt, HasCutStart, IsCursorAt, IsCompared, IsMetAt, IsPassed, IsUnended, StaysInPlace, AwaitsBase, base_wanted}
+use Rattle.auditor.proofs.Prelude.{◌≡◌, ◌≢◌, ℕ, ◌+◌, ◌<◌, ◌≤◌, inl, inr, ⊎_elim, List, [], ◌++◌, Some, Err, length, take, drop, refl, sym, ap, subst, ◌∙◌, append_assoc, append-nil, arith, ∥∥₁_elim, props, append_cancel_right, length-drop, take-append-le, take_all, Base, RuleSet, NumberedMoment, base_of, table_of, base_head, base_text, first_line, BreaksAt, IsShaped, base_lines, BadHeader, BadBase, NotALine, AuditFault, TranscriptCursor, BeginsBase, HasBadHeader, SpellsNoHead, SpellsNoHeader, line_feeds, Based, Opens, GoodLine, IsFurther, LineJudged, Position, stand_of, IsMetBehind, IsMetFirst, AreSameUpTo, ArePartedAt, HasCutStart, IsCursorAt, IsCompared, IsMetAt, IsPassed, IsUnended, StaysInPlace, AwaitsBase, base_wanted}
+use Rattle.auditor.proofs.LineCounts.{PartAt}
 use Rattle.auditor.proofs.ReadOpenings.{broken, nowhere}
 use Rattle.auditor.proofs.AuditPositions.{base_further, damaged, damaged_base, damaged_line, entry_further}
-use Rattle.auditor.proofs.Windows.{begins_less, begins_more, breaks_last, breaks_more, feeds_append, feeds_behind, first_line-more, no_line_no_feed, one_feed, part_more, same_end, same_none, same_whole}
+use Rattle.auditor.proofs.Windows.{begins_less, begins_more, breaks_more, feeds_append, feeds_behind, first_line-more, no_line_no_feed, one_feed, part_more, same_end, same_none, same_whole}
 
 -- ---- the beginning
 
@@ -24,49 +25,29 @@ nowhere_more text rest behind rules size base few cut shaped is none more =
     nowhere (text ++ more) (rest ++ more) (behind ++ more) rules size base few (first_line-more text more (base_head rules size) rest cut) shaped
     (ap (λ (l : List ℕ). l ++ more) is ∙ append_assoc (base_lines base) behind more) none
 
--- a line of a base that is not whole
-pub cut_base_start : (text rest : List ℕ) (rules : RuleSet) (size number : ℕ) → size ≤ 65535 → first_line text ≡ Some (base_head rules size, rest) → BreaksAt rest number → line_feeds rest < number → HasCutStart text
-cut_base_start text rest rules size number few cut breaks short =
-    inr (record { rules = rules; size = size; rest = rest; few = few; first = cut; breaks = breaks_last rest number breaks short })
-
 -- a text that ends before that
 pub cut_header : (text : List ℕ) → HasCutStart text → line_feeds text ≡ 0 → IsMetFirst text BadHeader
 cut_header text (inl none) feeds last = record { is = subst HasBadHeader (sym none) tt; looked_at = tt }
 cut_header text (inr base) feeds last =
-    let one = feeds_behind text (base_head base.rules base.size) base.rest base.first in
-    absurd (omega (arith, one, feeds))
+    absurd (omega (arith, feeds_behind text (base_head base.rules base.size) base.rest base.first, feeds))
 
 pub cut_base : (text : List ℕ) (line : ℕ) → HasCutStart text → line ≡ line_feeds text + 1 → (line ≡ 1 → ⊥) → IsMetFirst text (BadBase line)
-cut_base text line (inl none) is other =
-    let feeds = no_line_no_feed text none in
-    absurd (other (omega (arith, feeds, is)))
+cut_base text line (inl none) is other = absurd (other (omega (arith, no_line_no_feed text none, is)))
 cut_base text line (inr base) is other =
-    let one = feeds_behind text (base_head base.rules base.size) base.rest base.first in
-    let same : line_feeds base.rest + 1 + 1 ≡ line = omega (arith, one, is) in
+    let same : line_feeds base.rest + 1 + 1 ≡ line = omega (arith, feeds_behind text (base_head base.rules base.size) base.rest base.first, is) in
     subst (λ (n : ℕ). IsMetFirst text (BadBase n)) same (broken text base.rest base.rules base.size (line_feeds base.rest + 1) base.few base.first base.breaks)
 
 -- ---- an entry
 
 pub unwanted : (replay : TranscriptCursor) (rest : List ℕ) → (BeginsBase rest → ⊥) → IsCompared replay rest → replay.wanted.items ≡ []
-unwanted replay rest other compared = ∥∥₁_elim compared (search props) (λ c. by c.text)
-  where
-    by : (replay.wanted.items ≡ []) ⊎ (BeginsBase rest × (replay.wanted.items ≡ base_wanted replay)) → replay.wanted.items ≡ []
-    by (inl none) = none
-    by (inr base) = absurd (other base.0)
+unwanted replay rest other compared = ∥∥₁_elim compared (search props) (λ c. ⊎_elim (λ none. none) (λ base. absurd (other base.0)) c.text)
 
 -- a text that was made is that of the replay's base
 pub wanted_is : (replay : TranscriptCursor) (rest : List ℕ) → IsCompared replay rest → (replay.wanted.items ≡ [] → ⊥) → replay.wanted.items ≡ base_wanted replay
-wanted_is replay rest compared some = ∥∥₁_elim compared (search props) (λ c. by c.text)
-  where
-    by : (replay.wanted.items ≡ []) ⊎ (BeginsBase rest × (replay.wanted.items ≡ base_wanted replay)) → replay.wanted.items ≡ base_wanted replay
-    by (inl none) = absurd (some none)
-    by (inr base) = base.1
+wanted_is replay rest compared some = ∥∥₁_elim compared (search props) (λ c. ⊎_elim (λ none. absurd (some none)) (λ base. base.1) c.text)
 
 pub none_same : (replay : TranscriptCursor) (rest : List ℕ) → IsCompared replay rest → replay.wanted.items ≡ [] → replay.same ≡ 0
-none_same replay rest compared none = ∥∥₁_elim compared (search props) (λ c.
-    let within = c.alike.within in
-    let l : length replay.wanted.items ≡ 0 = ap length none in
-    omega (arith, within, l))
+none_same replay rest compared none = ∥∥₁_elim compared (search props) (λ c. omega (arith, c.alike.within, ap length none))
 
 pub compared_alike : (replay : TranscriptCursor) (rest : List ℕ) → IsCompared replay rest → AreSameUpTo replay.wanted.items rest replay.same
 compared_alike replay rest compared = record {
@@ -96,14 +77,9 @@ entry_passed old new line rest behind rules size lines wanted same other compare
 -- ---- a base
 
 pub wants_made : (old new : TranscriptCursor) (rest : List ℕ) → BeginsBase rest → AwaitsBase old new → IsCompared old rest → AreSameUpTo new.wanted.items rest new.same
-wants_made old new rest begins w c = by w.before_it
-  where
-    alike : AreSameUpTo old.wanted.items rest new.same
-    alike = subst (AreSameUpTo old.wanted.items rest) (sym w.same) (compared_alike old rest c)
-
-    by : (old.wanted.items ≡ []) ⊎ (old.wanted.items ≡ new.wanted.items) → AreSameUpTo new.wanted.items rest new.same
-    by (inl none) = same_none new.wanted.items rest new.same (w.same ∙ none_same old rest c none)
-    by (inr same) = subst (λ (l : List ℕ). AreSameUpTo l rest new.same) same alike
+wants_made old new rest begins w c =
+    let alike = subst (AreSameUpTo old.wanted.items rest) (sym w.same) (compared_alike old rest c) in
+    ⊎_elim (λ none. same_none new.wanted.items rest new.same (w.same ∙ none_same old rest c none)) (λ same. subst (λ (l : List ℕ). AreSameUpTo l rest new.same) same alike) w.before_it
 
 -- it is still the text of the replay's base
 pub wanted_still : (old new : TranscriptCursor) → AwaitsBase old new → new.wanted.items ≡ base_wanted new
@@ -132,20 +108,14 @@ pub base_waits : (old new : TranscriptCursor) (rest : List ℕ) (same : ℕ) →
 base_waits old new rest same rules size audit lines begins is at alike short all =
     let text = new.wanted.items in
     let front : text ≡ rest ++ drop same text = same_end text rest same alike all in
-    let within = alike.within in
     record {
       rules = rules;
       size = size;
       audit = audit;
       lines = lines;
-      unended = inr (record { begins = begins; missing = drop same text; some = some front within; is = sym is ∙ front });
+      unended = inr (record { begins = begins; missing = drop same text; some = λ e. short (omega (arith, ap length e, length-drop same text, alike.within)); is = sym is ∙ front });
       compared = ∣ record { text = inr (begins, is); alike = subst (AreSameUpTo text rest) (sym at) alike } ∣₁;
     }
-  where
-    some : new.wanted.items ≡ rest ++ drop same new.wanted.items → same ≤ length new.wanted.items → drop same new.wanted.items ≢ []
-    some front within e =
-        let l : length new.wanted.items ≡ length rest = ap length (front ∙ ap (λ (z : List ℕ). rest ++ z) e ∙ append-nil rest) in
-        short (omega (arith, all, l))
 
 -- another byte came
 pub base_damaged : (old : TranscriptCursor) (wanted rest : List ℕ) (same line : ℕ) → BeginsBase rest → wanted ≡ base_wanted old → AreSameUpTo wanted rest same → ArePartedAt wanted rest same → (same ≡ length wanted → ⊥) → (same ≡ length rest → ⊥) → line ≡ old.lines + line_feeds (take same rest) + 1 → IsMetAt old rest (BadBase line)
@@ -154,44 +124,26 @@ base_damaged old wanted rest same line begins is alike apart short more_is at by
     let inside = alike.inside in
     let less : same < length wanted = grind (arith, short, within) in
     let few : same < length rest = grind (arith, more_is, inside) in
-    damaged_base bytes old.rules old.size old.audit (rest ++ more) wanted (base_of old.audit.number (stand_of old.audit).moment) line same here.reached (begins_more rest more begins) refl is
-    (part_more wanted rest more same alike apart less few)
-    (λ good e.
-    at ∙ ap (λ (n : ℕ). n + 1)
-    (ap (λ (n : ℕ). n + line_feeds (take same rest)) (here.counted good e) ∙ sym (feeds_append good (take same rest)) ∙ ap (λ (l : List ℕ). line_feeds (good ++ l)) (sym (take-append-le same rest more inside))))
+    damaged_base bytes old.rules old.size old.audit (rest ++ more) line same here.reached (begins_more rest more begins)
+    (subst (λ (l : List ℕ). PartAt l (rest ++ more) same) is (part_more wanted rest more same alike apart less few))
+    (λ good e. at ∙ simp (here.counted good e, feeds_append, take-append-le same rest more inside))
 
 -- ---- a text that ends within a part
 
 pub cut_line : (replay : TranscriptCursor) (rest : List ℕ) (line : ℕ) → (BeginsBase rest → ⊥) → rest ≢ [] → IsUnended replay rest → line ≡ replay.lines + line_feeds rest + 1 → (bytes : List ℕ) → IsCursorAt bytes replay rest → IsMetBehind bytes replay.audit.number (NotALine line)
 cut_line replay rest line other some (inr begun) is bytes at = absurd (other begun.begins)
 cut_line replay rest line other some (inl (none, unlike)) is bytes at =
-    let feeds = no_line_no_feed rest none in
-    let damage : HasNoEntry rest None = some in
-    let one : line ≡ replay.lines + 1 = omega (arith, is, feeds) in
-    damaged_line bytes replay.rules replay.size replay.audit rest line at.reached (λ good e. one ∙ ap (λ (n : ℕ). n + 1) (at.counted good e)) other
-    (subst (λ (found : Option (List ℕ × List ℕ)). HasNoEntry rest found) (sym none) damage)
+    let one : line ≡ replay.lines + 1 = omega (arith, is, no_line_no_feed rest none) in
+    damaged_line bytes replay.rules replay.size replay.audit rest line at.reached (λ good e. one ∙ ap (λ (n : ℕ). n + 1) (at.counted good e)) other (rw none some)
 
 pub cut_wanted : (replay : TranscriptCursor) (rest : List ℕ) (line : ℕ) → BeginsBase rest → IsUnended replay rest → line ≡ replay.lines + line_feeds rest + 1 → (bytes : List ℕ) → IsCursorAt bytes replay rest → IsMetBehind bytes replay.audit.number (BadBase line)
 cut_wanted replay rest line begins (inl (none, unlike)) is bytes at = absurd (unlike begins)
 cut_wanted replay rest line begins (inr begun) is bytes at =
-    damaged_base bytes replay.rules replay.size replay.audit rest (base_wanted replay) (base_of replay.audit.number (stand_of replay.audit).moment) line (length rest) at.reached begins refl refl
+    let all = take_all (length rest) rest (omega arith) in
+    damaged_base bytes replay.rules replay.size replay.audit rest line (length rest) at.reached begins
     (record {
       within = omega arith;
-      parting = record {
-        common = rest;
-        missing = begun.missing;
-        more = [];
-        wanted = begun.is;
-        had = sym (append-nil rest);
-        some = begun.some;
-        apart = λ b x y e f. nothing b y f;
-      };
+      parting = record { common = rest; missing = begun.missing; more = []; wanted = begun.is; had = sym (append-nil rest); some = begun.some; apart = λ b x y e f. absurd cc };
       common_is = all;
     })
-    (λ good e. is ∙ ap (λ (n : ℕ). n + 1) (ap (λ (n : ℕ). n + line_feeds rest) (at.counted good e) ∙ sym (feeds_append good rest) ∙ ap (λ (l : List ℕ). line_feeds (good ++ l)) (sym all)))
-  where
-    nothing : (b : ℕ) (y : List ℕ) → [] ≡ b ∷ y → ⊥
-    nothing b y e = absurd cc
-
-    all : take (length rest) rest ≡ rest
-    all = take_all (length rest) rest (omega arith)
+    (λ good e. is ∙ simp (all, feeds_append, at.counted good e))

@@ -1,5 +1,5 @@
 -- The opening of a transcript, and the beginning of its run, are determined by the text.
-use Rattle.auditor.proofs.Prelude.{◌≡◌, ℕ, ◌+◌, ◌≤◌, ◌⊎◌, inl, inr, List, [], ◌∷◌, ◌++◌, Some, get_or, refl, sym, ap, ap₂, subst, ◌∙◌, append_assoc, arith, same_Some, Base, Header, RuleSet, Moment, LogPart, NumberedMoment, table_of, weight_of, begins_once, charge_bound, header_text, base_head, Head, first_line, base_lines, first_line-ended, spells_header_once, spells_base_line_once, line_free, base_text_is, base_once, base_unbroken, breaks_once, Opening, Named, Based, IsOpening, Opens, size_of, present_of, base_in, opening_text, parts_text, BeginsWithTranscript, HasBadHeader, HasBadStart, HasBrokenBase, HasImpossibleBase}
+use Rattle.auditor.proofs.Prelude.{◌≡◌, ℕ, ◌+◌, ◌≤◌, ◌⊎◌, inl, inr, List, [], ◌∷◌, ◌++◌, Some, get_or, refl, sym, ap, ap₂, subst, ◌∙◌, append_assoc, arith, same_Some, Base, Header, RuleSet, LogPart, NumberedMoment, table_of, weight_of, begins_once, charge_bound, header_text, base_head, Head, first_line, base_lines, first_line-ended, spells_header_once, spells_base_line_once, line_free, base_text_is, base_once, base_unbroken, breaks_once, Opening, Named, Based, IsOpening, Opens, size_of, present_of, base_in, opening_text, parts_text, BeginsWithTranscript, HasBadHeader, HasBadStart, HasBrokenBase, HasImpossibleBase}
 use Rattle.auditor.proofs.Feedless.{header_free}
 
 -- ---- the first line
@@ -31,31 +31,23 @@ header_no_head r q size count names e = let byte : 32 ≡ 50 = ap (λ (l : List 
 -- a head has one rule set and one number of names
 pub head_once : (r q : RuleSet) (m n : ℕ) → m ≤ 65535 → n ≤ 65535 → base_head r m ≡ base_head q n → (r ≡ q) × (m ≡ n)
 head_once r q m n few little e =
-    let same = spells_base_line_once (base_head r m) (Head r m) (Head q n) (record { fits = few; is = refl }) (record { fits = little; is = e }) in
-    parts same
-  where
-    parts : Head r m ≡ Head q n → (r ≡ q) × (m ≡ n)
-    parts same = let rules : r ≡ q = cc in let names : m ≡ n = cc in (rules, names)
+    let same : Head r m ≡ Head q n = spells_base_line_once (base_head r m) (Head r m) (Head q n) (record { fits = few; is = refl }) (record { fits = little; is = e }) in
+    ((cc), (cc))
 
 -- ---- one opening
 
-pub record SameText (r q : RuleSet) (o u : Opening) (x y : List ℕ) : Type 0 where
-  pub rules : r ≡ q
-  pub openings : o ≡ u
-  pub rests : x ≡ y
-
-text_once : (r q : RuleSet) (o u : Opening) (x y : List ℕ) → IsOpening o → IsOpening u → line_in r o ≡ line_in q u → behind_in o x ≡ behind_in u y → SameText r q o u x y
+text_once : (r q : RuleSet) (o u : Opening) (x y : List ℕ) → IsOpening o → IsOpening u → line_in r o ≡ line_in q u → behind_in o x ≡ behind_in u y → (r ≡ q) × (o ≡ u) × (x ≡ y)
 text_once r q (Named m c) (Named n d) x y f g line behind =
     let a : Header = record { rules = r; names = m; present = c } in
     let b : Header = record { rules = q; names = n; present = d } in
     let once = spells_header_once (header_text r m c) a b (record { few = f.few; within = f.within; is = refl }) (record { few = g.few; within = g.within; is = line }) in
-    record { rules = ap (λ (h : Header). h.rules) once; openings = ap (λ (h : Header). Named h.names h.present) once; rests = behind }
+    (ap (λ (h : Header). h.rules) once, ap (λ (h : Header). Named h.names h.present) once, behind)
 text_once r q (Named m c) (Based n b) x y f g line behind = absurd (header_no_head r q m c n line)
 text_once r q (Based m a) (Named n d) x y f g line behind = absurd (header_no_head q r n d m (sym line))
 text_once r q (Based m a) (Based n b) x y f g line behind =
     let head = head_once r q m n f.few g.few line in
     let lines = base_once (base_lines a ++ x) a b x y f.shaped g.shaped refl behind in
-    record { rules = head.0; openings = ap₂ (λ (z : ℕ) (base : Base). Based z base) head.1 lines.0; rests = lines.1 }
+    (head.0, ap₂ (λ (z : ℕ) (base : Base). Based z base) head.1 lines.0, lines.1)
 
 -- with the beginning of its run
 pub record SameOpening (r q : RuleSet) (o u : Opening) (start begin : NumberedMoment) (x y : List ℕ) : Type 0 where
@@ -64,28 +56,16 @@ pub record SameOpening (r q : RuleSet) (o u : Opening) (start begin : NumberedMo
   pub starts : start ≡ begin
   pub rests : x ≡ y
 
-abbrev stand : Moment → ℕ → NumberedMoment
-stand m n = record { moment = m; count = n }
-
 start_once : (rules : RuleSet) (o : Opening) (start begin : NumberedMoment) → Opens rules o start → Opens rules o begin → start ≡ begin
 start_once rules o start begin x y =
-    ap₂ (λ (m : Moment) (n : ℕ). stand m n) (begins_once (table_of rules) (charge_bound (weight_of rules)) (size_of o) (present_of o) (base_in o) start.moment begin.moment x.begins y.begins) (x.count ∙ sym y.count)
-
-opens_same : (r q : RuleSet) (o u : Opening) (start : NumberedMoment) → r ≡ q → o ≡ u → Opens q u start → Opens r o start
-opens_same r q o u start rules openings x =
-    subst (λ (z : RuleSet). Opens z o start) (sym rules) (subst (λ (z : Opening). Opens q z start) (sym openings) x)
+    let moments = begins_once (table_of rules) (charge_bound (weight_of rules)) (size_of o) (present_of o) (base_in o) start.moment begin.moment x.begins y.begins in
+    λ i. record { moment = moments i; count = (x.count ∙ sym y.count) i }
 
 pub opening_once : (r q : RuleSet) (o u : Opening) (start begin : NumberedMoment) (x y : List ℕ) → Opens r o start → Opens q u begin → opening_text r o ++ x ≡ opening_text q u ++ y → SameOpening r q o u start begin x y
 opening_once r q o u start begin x y opens opened e =
-    let first : (line_in r o, behind_in o x) ≡ (line_in q u, behind_in u y) =
-    same_Some (line_in r o, behind_in o x) (line_in q u, behind_in u y) (sym (opening_first r o x opens.fits) ∙ ap first_line e ∙ opening_first q u y opened.fits) in
+    let first : (line_in r o, behind_in o x) ≡ (line_in q u, behind_in u y) = same_Some _ _ (sym (opening_first r o x opens.fits) ∙ ap first_line e ∙ opening_first q u y opened.fits) in
     let text = text_once r q o u x y opens.fits opened.fits (ap (λ (p : List ℕ × List ℕ). p.0) first) (ap (λ (p : List ℕ × List ℕ). p.1) first) in
-    record {
-      rules = text.rules;
-      openings = text.openings;
-      starts = start_once r o start begin opens (opens_same r q o u begin text.rules text.openings opened);
-      rests = text.rests;
-    }
+    record { rules = text.0; openings = text.1; starts = start_once r o start begin opens (rw (text.0, text.1) opened); rests = text.2 }
 
 -- ---- a text that begins with none
 
@@ -117,14 +97,12 @@ lines_good r m behind line q (Based size base) start more few (inl breaks) opens
 lines_good r m behind line q (Based size base) start more few (inr nowhere) opens head lines =
     let same = head_once r q m size few opens.fits.few head in
     let once = base_once behind nowhere.base base nowhere.more more nowhere.shaped opens.fits.shaped nowhere.is lines in
-    nowhere.nowhere start (opens_same r q (Based m nowhere.base) (Based size base) start same.0 (ap₂ (λ (z : ℕ) (b : Base). Based z b) same.1 once.0) opens)
+    nowhere.nowhere start (rw (same.0, same.1, once.0) opens)
 
 pub start_good : (bytes : List ℕ) (line : ℕ) (rules : RuleSet) (log : List LogPart) (end : NumberedMoment) (rest : List ℕ) → HasBadStart bytes line → BeginsWithTranscript bytes rules log end rest → ⊥
 start_good bytes line rules log end rest bad f =
-    let more = parts_behind bytes rules log end rest f in
-    let same : (base_head bad.rules bad.size, bad.rest) ≡ (line_in rules f.opening, behind_in f.opening more) =
-    same_Some (base_head bad.rules bad.size, bad.rest) (line_in rules f.opening, behind_in f.opening more) (sym bad.first ∙ follows_first bytes rules log end rest f) in
-    lines_good bad.rules bad.size bad.rest line rules f.opening f.transcript.start more bad.few bad.bad f.transcript.opens (ap (λ (p : List ℕ × List ℕ). p.0) same) (ap (λ (p : List ℕ × List ℕ). p.1) same)
+    let same : (base_head bad.rules bad.size, bad.rest) ≡ (line_in rules f.opening, _) = same_Some _ _ (sym bad.first ∙ follows_first bytes rules log end rest f) in
+    lines_good bad.rules bad.size bad.rest line rules f.opening f.transcript.start _ bad.few bad.bad f.transcript.opens (ap (λ (p : List ℕ × List ℕ). p.0) same) (ap (λ (p : List ℕ × List ℕ). p.1) same)
 
 -- ---- a bad start is one
 
@@ -141,7 +119,5 @@ start_line r q m n rest k l (inr x) (inr y) = x.line_is ∙ sym y.line_is
 
 pub start_once_bad : (bytes : List ℕ) (k l : ℕ) → HasBadStart bytes k → HasBadStart bytes l → k ≡ l
 start_once_bad bytes k l x y =
-    let same : (base_head x.rules x.size, x.rest) ≡ (base_head y.rules y.size, y.rest) =
-    same_Some (base_head x.rules x.size, x.rest) (base_head y.rules y.size, y.rest) (sym x.first ∙ y.first) in
-    let rests = ap (λ (p : List ℕ × List ℕ). p.1) same in
-    start_line x.rules y.rules x.size y.size y.rest k l (subst (λ (z : List ℕ). HasBrokenBase z k ⊎ HasImpossibleBase x.rules x.size z k) rests x.bad) y.bad
+    let same : (base_head x.rules x.size, x.rest) ≡ (base_head y.rules y.size, y.rest) = same_Some _ _ (sym x.first ∙ y.first) in
+    start_line x.rules y.rules x.size y.size y.rest k l (subst (λ (z : List ℕ). HasBrokenBase z k ⊎ HasImpossibleBase x.rules x.size z k) (ap (λ (p : List ℕ × List ℕ). p.1) same) x.bad) y.bad

@@ -1,51 +1,40 @@
 -- A transcript that is read piece by piece.
-use Rattle.auditor.proofs.Prelude.{◌≡◌, ℕ, ◌+◌, ◌-◌, ◌<◌, ◌^◌, ◌⊎◌, inl, inr, List, [], ◌++◌, Option, None, Some, IfSome, Result, Ok, Err, IfErr, OnOk, length, take, drop, refl, sym, ap, ap₂, subst, ◌∙◌, append_assoc, append-nil, arith, MatchOption, Consumes, append_cancel_right, length-append, take-append-drop, drop-append_seam, take-append_seam, Consumes-trans, ∥∥₁_elim, ∥∥₁_map, ∥∥₁_prop, AuditFault, IncrementalAudit, TranscriptCursor, BeginsBase, part_text, IsCursorAfter, EndsIn, HasCutStart, IsCursorAt, IsCompared, IsMetAt, IsPassed, IsRead, IsReadOf, IsReachable, IsUnderway, StaysInPlace, base_wanted, IsJudged}
+use Rattle.auditor.proofs.Prelude.{◌≡◌, ℕ, ◌+◌, ◌-◌, ◌<◌, ◌^◌, inl, inr, ⊎_elim, List, [], ◌++◌, Option, None, Some, IfSome, Result, Ok, Err, IfErr, OnOk, length, take, drop, refl, sym, ap, ap₂, subst, ◌∙◌, append_assoc, append-nil, arith, MatchOption, Consumes, append_cancel_right, length-append, take-append-drop, drop-append_seam, take-append_seam, Consumes-trans, ∥∥₁_elim, ∥∥₁_map, ∥∥₁_prop, AuditFault, IncrementalAudit, TranscriptCursor, part_text, EndsIn, IsCursorAt, IsCompared, IsMetAt, IsPassed, IsRead, IsReadOf, IsReachable, IsUnderway, StaysInPlace, IsJudged}
 use Rattle.auditor.proofs.WholeTranscripts.{behind_judged}
 use Rattle.auditor.proofs.Windows.{begins_more, same_more}
 
 -- ---- more bytes come
 
-pub at_more : (bytes more : List ℕ) (replay : TranscriptCursor) (rest : List ℕ) → IsCursorAt bytes replay rest → IsCursorAt (bytes ++ more) replay (rest ++ more)
-at_more bytes more replay rest at =
+-- the same transcript, in a text with another rest
+at_with : (bytes text : List ℕ) (replay : TranscriptCursor) (rest left : List ℕ) (at : IsCursorAt bytes replay rest) → text ≡ at.reached.follows.good ++ left → ((good : List ℕ) → text ≡ good ++ left → bytes ≡ good ++ rest) → IsCursorAt text replay left
+at_with bytes text replay rest left at splits same =
     let r = at.reached in
-    let f = r.follows in
     record {
       reached = record {
         log = r.log;
-        follows = record {
-          opening = f.opening;
-          good = f.good;
-          transcript = f.transcript;
-          splits = ap (λ (l : List ℕ). l ++ more) f.splits ∙ append_assoc f.good rest more;
-        };
+        follows = record { opening = r.follows.opening; good = r.follows.good; transcript = r.follows.transcript; splits = splits };
         size_is = r.size_is;
         counts = r.counts;
       };
-      counted = λ good e. at.counted good (append_cancel_right bytes (good ++ rest) more (e ∙ sym (append_assoc good rest more)));
+      counted = λ good e. at.counted good (same good e);
     }
 
+pub at_more : (bytes more : List ℕ) (replay : TranscriptCursor) (rest : List ℕ) → IsCursorAt bytes replay rest → IsCursorAt (bytes ++ more) replay (rest ++ more)
+at_more bytes more replay rest at =
+    at_with bytes (bytes ++ more) replay rest (rest ++ more) at (ap (λ (l : List ℕ). l ++ more) at.reached.follows.splits ∙ append_assoc at.reached.follows.good rest more)
+    (λ good e. append_cancel_right bytes (good ++ rest) more (e ∙ sym (append_assoc good rest more)))
+
 -- and fewer
-pub at_less : (bytes more : List ℕ) (replay : TranscriptCursor) (rest all : List ℕ) → all ≡ rest ++ more → IsCursorAt bytes replay all → (front : List ℕ) × (bytes ≡ front ++ more) × IsCursorAt front replay rest
+at_less : (bytes more : List ℕ) (replay : TranscriptCursor) (rest all : List ℕ) → all ≡ rest ++ more → IsCursorAt bytes replay all → (front : List ℕ) × (bytes ≡ front ++ more) × IsCursorAt front replay rest
 at_less bytes more replay rest all is at =
-    let r = at.reached in
-    let f = r.follows in
-    let splits : bytes ≡ (f.good ++ rest) ++ more = f.splits ∙ ap (λ (l : List ℕ). f.good ++ l) is ∙ sym (append_assoc f.good rest more) in
-    let less : IsCursorAt (f.good ++ rest) replay rest = record {
-      reached = record {
-        log = r.log;
-        follows = record { opening = f.opening; good = f.good; transcript = f.transcript; splits = refl };
-        size_is = r.size_is;
-        counts = r.counts;
-      };
-      counted = λ good e. at.counted good (splits ∙ ap (λ (l : List ℕ). l ++ more) e ∙ append_assoc good rest more ∙ ap (λ (l : List ℕ). good ++ l) (sym is));
-    } in
-    (f.good ++ rest, splits, less)
+    let good = at.reached.follows.good in
+    let splits : bytes ≡ (good ++ rest) ++ more = at.reached.follows.splits ∙ ap (λ (l : List ℕ). good ++ l) is ∙ sym (append_assoc good rest more) in
+    (good ++ rest, splits, at_with bytes (good ++ rest) replay all rest at refl (λ fine e. splits ∙ ap (λ (l : List ℕ). l ++ more) e ∙ append_assoc fine rest more ∙ ap (λ (l : List ℕ). fine ++ l) (sym is)))
 
 pub somewhere_less : (more : List ℕ) (replay : TranscriptCursor) (rest all : List ℕ) → all ≡ rest ++ more → IsReachable replay all → IsReachable replay rest
 somewhere_less more replay rest all is somewhere = ∥∥₁_map somewhere (λ s.
     let less = at_less s.bytes more replay rest all is s.at in
-    let l = ap length less.1 ∙ length-append less.0 more in
-    record { bytes = less.0; few = omega (arith, l, s.few); at = less.2 })
+    record { bytes = less.0; few = omega (arith, ap length less.1, length-append less.0 more, s.few); at = less.2 })
 
 -- if what is made of fewer bytes holds, more of them may follow
 pub at_on : (bytes more : List ℕ) (old new : TranscriptCursor) (rest all behind : List ℕ) → all ≡ rest ++ more → ((read : List ℕ) → IsCursorAt read old rest → IsCursorAt read new behind) → IsCursorAt bytes old all → IsCursorAt bytes new (behind ++ more)
@@ -63,11 +52,8 @@ fault_less bytes more later replay rest all fault is judged at =
     subst (λ (l : List ℕ). IsJudged l (Err fault)) (sym (append_assoc less.0 more later) ∙ ap (λ (l : List ℕ). l ++ later) (sym less.1)) (judged less.0 (more ++ later) less.2)
 
 pub compared_more : (replay : TranscriptCursor) (rest more : List ℕ) → IsCompared replay rest → IsCompared replay (rest ++ more)
-compared_more replay rest more compared = ∥∥₁_map compared (λ c. record { text = by c.text; alike = same_more replay.wanted.items rest more replay.same c.alike })
-  where
-    by : (replay.wanted.items ≡ []) ⊎ (BeginsBase rest × (replay.wanted.items ≡ base_wanted replay)) → (replay.wanted.items ≡ []) ⊎ (BeginsBase (rest ++ more) × (replay.wanted.items ≡ base_wanted replay))
-    by (inl none) = inl none
-    by (inr base) = inr (begins_more rest more base.0, base.1)
+compared_more replay rest more compared =
+    ∥∥₁_map compared (λ c. record { text = ⊎_elim (λ none. inl none) (λ base. inr (begins_more rest more base.0, base.1)) c.text; alike = same_more replay.wanted.items rest more replay.same c.alike })
 
 pub read_more : (read piece : List ℕ) (run : Option TranscriptCursor) (held : List ℕ) → IsReadOf read run held → IsReadOf (read ++ piece) run (held ++ piece)
 read_more read piece None held is = ap (λ (l : List ℕ). l ++ piece) is
@@ -75,40 +61,25 @@ read_more read piece (Some run) held is = (at_more read piece run held is.0, com
 
 -- if something was judged
 pub held_some : (read piece : List ℕ) (found : Option TranscriptCursor) (run : TranscriptCursor) (held new : List ℕ) → found ≡ Some run → new ≡ held ++ piece → IsReadOf read found held → IsCursorAt (read ++ piece) run new × IsCompared run new
-held_some read piece found run held new is grown at =
-    let more = read_more read piece (Some run) held (subst (λ (o : Option TranscriptCursor). IsReadOf read o held) is at) in
-    subst (λ (l : List ℕ). IsCursorAt (read ++ piece) run l × IsCompared run l) (sym grown) more
+held_some read piece found run held new is grown there = rw grown (read_more read piece (Some run) held (rw is at there))
 
 -- ---- some bytes were read
 
 held_at : (read : List ℕ) (trial : IncrementalAudit) (run : TranscriptCursor) (held : List ℕ) → trial.run ≡ Some run → held ≡ trial.held.items → IsRead read trial → IsCursorAt read run held × IsCompared run held
-held_at read trial run held is same (counted, at) =
-    subst (λ (l : List ℕ). IsCursorAt read run l × IsCompared run l) (sym same) (subst (λ (o : Option TranscriptCursor). IsReadOf read o trial.held.items) is at)
+held_at read trial run held is same (counted, there) = rw same (rw is at there)
 
 pub held_somewhere : (trial : IncrementalAudit) (run : TranscriptCursor) (held : List ℕ) → trial.run ≡ Some run → held ≡ trial.held.items → IsUnderway trial → IsReachable run held
-held_somewhere trial run held is same (few, some) = ∥∥₁_map some (λ r. record {
-  bytes = r.0;
-  few = subst (λ (n : ℕ). n < 2 ^ 63) (sym r.1.0) few;
-  at = (held_at r.0 trial run held is same r.1).0;
-})
+held_somewhere trial run held is same (few, some) =
+    ∥∥₁_map some (λ r. record { bytes = r.0; few = omega (arith, r.1.0, few); at = (held_at r.0 trial run held is same r.1).0 })
 
 pub held_compared : (trial : IncrementalAudit) (run : TranscriptCursor) (held : List ℕ) → trial.run ≡ Some run → held ≡ trial.held.items → IsUnderway trial → IsCompared run held
 held_compared trial run held is same (few, some) = ∥∥₁_elim some ∥∥₁_prop (λ r. (held_at r.0 trial run held is same r.1).1)
 
 pub grown_somewhere : (trial : IncrementalAudit) (piece : List ℕ) (run : TranscriptCursor) (new : List ℕ) → trial.run ≡ Some run → new ≡ trial.held.items ++ piece → trial.len + length piece < 2 ^ 63 → IsUnderway trial → IsReachable run new
-grown_somewhere trial piece run new is grown room (few, some) = ∥∥₁_map some (λ r. record {
-  bytes = r.0 ++ piece;
-  few = subst (λ (n : ℕ). n < 2 ^ 63) (sym (length-append r.0 piece ∙ ap (λ (n : ℕ). n + length piece) r.1.0)) room;
-  at = (held_some r.0 piece trial.run run trial.held.items new is grown r.1.1).0;
-})
+grown_somewhere trial piece run new is grown room (few, some) =
+    ∥∥₁_map some (λ r. record { bytes = r.0 ++ piece; few = omega (arith, length-append r.0 piece, r.1.0, room); at = (held_some r.0 piece trial.run run trial.held.items new is grown r.1.1).0 })
 
 -- ---- the parts in what is held
-
-pub waits_none : {X : Type 0} (now : X → List ℕ) (found : Option X) (old new : TranscriptCursor) (rest : List ℕ) → MatchOption found (StaysInPlace old new rest) (λ b. IsPassed old new rest (now b)) → found ≡ None → StaysInPlace old new rest
-waits_none {X} now found old new rest ahead none = subst (λ (o : Option X). MatchOption o (StaysInPlace old new rest) (λ b. IsPassed old new rest (now b))) none ahead
-
-pub passed_by : {X : Type 0} (now : X → List ℕ) (found : Option X) (old new : TranscriptCursor) (rest : List ℕ) (behind : X) → MatchOption found (StaysInPlace old new rest) (λ b. IsPassed old new rest (now b)) → found ≡ Some behind → IsPassed old new rest (now behind)
-passed_by {X} now found old new rest behind ahead is = subst (λ (o : Option X). MatchOption o (StaysInPlace old new rest) (λ b. IsPassed old new rest (now b))) is ahead
 
 pub waits_by : {X : Type 0} (now : X → List ℕ) (found : Option X) (old new : TranscriptCursor) (rest : List ℕ) → MatchOption found (StaysInPlace old new rest) (λ b. IsPassed old new rest (now b)) → ((x : X) → found ≡ Some x → ⊥) → StaysInPlace old new rest
 waits_by now None old new rest ahead none = ahead
@@ -124,17 +95,10 @@ parts_fault bytes more replay rest fault met at = behind_judged (bytes ++ more) 
 
 -- ---- what is dropped
 
-pub begins_by : {X : Type 0} (run : X → TranscriptCursor) (now : X → List ℕ) (found : Option X) (text : List ℕ) (x : X) → MatchOption found (HasCutStart text) (λ b. IsCursorAfter text (run b) (now b)) → found ≡ Some x → IsCursorAfter text (run x) (now x)
-begins_by {X} run now found text x begins is = subst (λ (o : Option X). MatchOption o (HasCutStart text) (λ b. IsCursorAfter text (run b) (now b))) is begins
-
 pub dropped : (all held rest new : List ℕ) (n : ℕ) → held ≡ all → EndsIn held rest → n ≡ length held - length rest → new ≡ drop n all → new ≡ rest
 dropped all held rest new n same (front, is) count e =
-    let l = ap length is ∙ length-append front rest in
-    let at : n ≡ length front = omega (arith, count, l) in
-    e ∙ ap (drop n) (sym same ∙ is) ∙ ap (λ (k : ℕ). drop k (front ++ rest)) at ∙ drop-append_seam front rest
-
-pub begins_ends : (text : List ℕ) (replay : TranscriptCursor) (rest : List ℕ) → IsCursorAfter text replay rest → EndsIn text rest
-begins_ends text replay rest b = (b.opened.follows.good, b.opened.follows.splits)
+    let at : n ≡ length front = omega (arith, count, ap length is, length-append front rest) in
+    e ∙ simp (at, sym same ∙ is, drop-append_seam)
 
 pub ends_behind : (text rest behind : List ℕ) → EndsIn text rest → EndsIn rest behind → EndsIn text behind
 ends_behind text rest behind (front, is) (more, splits) = (front ++ more, is ∙ ap (λ (l : List ℕ). front ++ l) splits ∙ sym (append_assoc front more behind))
@@ -176,5 +140,4 @@ consumed_more a b c read given piece n before same now =
 -- a read that gave nothing
 pub consumed_none : (a b c : Option (List ℕ)) (read given : List ℕ) (n : ℕ) → Consumes a b read → n ≡ 0 → Consumes b c (take n given) → Consumes a c read
 consumed_none a b c read given n before none now =
-    let nothing : Consumes b c [] = subst (λ (k : ℕ). Consumes b c (take k given)) none now in
-    subst (Consumes a c) (append-nil read) (Consumes-trans a b c read [] before nothing)
+    subst (Consumes a c) (append-nil read) (Consumes-trans a b c read [] before (subst (λ (k : ℕ). Consumes b c (take k given)) none now))

@@ -1,6 +1,6 @@
 -- What a transcript begins with, as it was read.
-use Rattle.auditor.proofs.Prelude.{◌≡◌, ℕ, ◌+◌, ◌<◌, ◌≤◌, ◌⊎◌, inl, inr, cond, List, [], ◌∷◌, ◌++◌, Option, Some, length, refl, sym, ap, subst, ◌∙◌, nat_eq, arith, nat_cmp, ordering_then, Less, Equal, Greater, lt-ltb, eq-eqb, false_from_ne_true, ltb-true, length-append, Base, NodeRecord, At, RuleSet, IsBaseMoment, NumberedMoment, pair_cmp, beginning_with, State, opening_with, table_of, weight_of, charge_bound, base_head, lines_with_ends, BaseLine, Head, first_line, SpellsBaseLine, Header, SpellsHeader, base_line_text, IsEdgeAbove, NodesRise, EdgesRise, IsShaped, BreaksAt, base_lines, BadBase, HasImpossibleBase, HasBrokenBase, SpellsNoHead, Named, Based, Opens, Position, position_at, IsMetFirst, IsOpened}
-use Rattle.std.proofs.Common.{nat_lt}
+use Rattle.auditor.proofs.Prelude.{◌≡◌, ℕ, ◌+◌, ◌≤◌, ◌⊎◌, inl, inr, List, [], ◌∷◌, ◌++◌, Option, Some, length, refl, ap, ◌∙◌, arith, Less, length-append, Base, At, RuleSet, IsBaseMoment, NumberedMoment, pair_cmp, beginning_with, State, opening_with, table_of, weight_of, charge_bound, base_head, lines_with_ends, BaseLine, Head, first_line, SpellsBaseLine, Header, SpellsHeader, base_line_text, IsEdgeAbove, EdgesRise, IsShaped, BreaksAt, base_lines, BadBase, HasImpossibleBase, HasBrokenBase, SpellsNoHead, Named, Based, Opens, Position, position_at, IsMetFirst, IsOpened}
+use Rattle.std.proofs.lemmas.Bool.Decides.{nat_tests}
 use Rattle.std.specs.Prelude.{IfSome}
 use Rattle.rule_machine.specs.declared.base.EpochStart.TheVariants.{Forgotten}
 use Rattle.reply_checker.specs.Bases as judge
@@ -8,24 +8,9 @@ use Rattle.auditor.proofs.AuditPositions.{opened_follows, header_splits, base_sp
 
 -- ---- the two orders of a base's lines are one
 
-pub names_rise : (last : ℕ) (nodes : List NodeRecord) → NodesRise last nodes → judge.NamesRise last nodes
-names_rise last [] rise = tt
-names_rise last (place ∷ nodes) rise = (rise.0, names_rise place.node nodes rise.1)
-
-nat_less : (a b : ℕ) → a < b → nat_cmp a b ≡ Less
-nat_less a b h = ap (λ v. cond v Less (cond (nat_eq a b) Equal Greater)) (lt-ltb a b h)
-
-nat_same : (a : ℕ) → nat_cmp a a ≡ Equal
-nat_same a =
-    ap (λ v. cond v Less (cond (nat_eq a a) Equal Greater)) (false_from_ne_true (nat_lt a a) (λ below. absurd (omega (arith, ltb-true a a below))))
-    ∙ ap (λ v. cond v Equal Greater) (eq-eqb a a refl)
-
 above_less : (last edge : ℕ × ℕ) → IsEdgeAbove last edge → pair_cmp last edge ≡ Less
-above_less last edge (inl low) = ap (λ o. ordering_then o (nat_cmp last.1 edge.1)) (nat_less last.0 edge.0 low)
-above_less last edge (inr (same, high)) =
-    ap (λ n. ordering_then (nat_cmp last.0 n) (nat_cmp last.1 edge.1)) (sym same)
-    ∙ ap (λ o. ordering_then o (nat_cmp last.1 edge.1)) (nat_same last.0)
-    ∙ nat_less last.1 edge.1 high
+above_less last edge (inl low) = grind (arith, nat_tests)
+above_less last edge (inr (same, high)) = grind (arith, nat_tests)
 
 pub edges_rise : (last : ℕ × ℕ) (edges : List (ℕ × ℕ)) → EdgesRise last edges → judge.EdgesAscend last edges
 edges_rise last [] rise = tt
@@ -55,7 +40,7 @@ pub base_opened : (text rest behind : List ℕ) (rules : RuleSet) (size : ℕ) (
     → p ≡ position_at (record { moment = record { state = s; spent = base.spent }; count = base.number }) → IsOpened text rules size Forgotten p behind
 base_opened text rest behind rules size base s found p few cut is shaped number begun some opening =
     let start : NumberedMoment = record { moment = record { state = s; spent = base.spent }; count = base.number } in
-    let here : IsBegunBy rules size base s = subst (λ (o : Option State). IfSome o (IsBegunBy rules size base)) some begun in
+    let here : IsBegunBy rules size base s = rw some at begun in
     record {
       start = start;
       follows = opened_follows text behind rules (Based size base) start (record { fits = record { few = few; shaped = shaped; number = number; edges = here.1 }; begins = here.0; count = refl }) number
@@ -83,17 +68,10 @@ broken text rest rules size number few cut breaks =
 -- this many bytes have at most as many lines
 lines_few : (lines : List BaseLine) → length lines ≤ length (lines_with_ends base_line_text lines)
 lines_few [] = omega arith
-lines_few (line ∷ lines) =
-    let first = length-append (base_line_text line ++ 10 ∷ []) (lines_with_ends base_line_text lines) in
-    let own = length-append (base_line_text line) (10 ∷ []) in
-    let rest = lines_few lines in
-    omega (arith, first, own, rest)
+lines_few (line ∷ lines) = omega (arith, lines_few lines, length-append {A = ℕ})
 
 pub breaks_few : (rest : List ℕ) (number : ℕ) → BreaksAt rest number → number ≤ length rest + 1
-breaks_few rest number b =
-    let whole = ap length b.is ∙ length-append (lines_with_ends base_line_text b.lines) b.rest in
-    let few = lines_few b.lines in
-    omega (arith, whole, few, b.number)
+breaks_few rest number b = omega (arith, ap length b.is, length-append {A = ℕ}, lines_few b.lines, b.number)
 
 -- ---- the first line
 

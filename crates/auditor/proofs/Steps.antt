@@ -32,10 +32,7 @@ pub passes_rise : (t : RuleTable) (at end : NumberedMoment) (log : List LogPart)
 passes_rise t at end [] is = let same = ap (λ (x : NumberedMoment). x.count) is in omega (arith, same)
 passes_rise t at end (part ∷ log) passes =
     let split = passes_first t at end part log passes in
-    let count = step_count t at split.0 part split.1 in
-    let rises = count_rises at.count part in
-    let rest = passes_rise t split.0 end log split.2 in
-    omega (arith, count, rises, rest)
+    omega (arith, step_count t at split.0 part split.1, count_rises at.count part, passes_rise t split.0 end log split.2)
 
 -- the text of one part more
 pub parts_text_add : (rules : RuleSet) (size : ℕ) (t : RuleTable) (at end : NumberedMoment) (log : List LogPart) (part : LogPart) → Passes t at log end → parts_text rules size at.count (log ++ part ∷ []) ≡ parts_text rules size at.count log ++ part_text rules size end.count part
@@ -43,12 +40,8 @@ parts_text_add rules size t at end [] part is =
     append-nil (part_text rules size at.count part) ∙ ap (λ (x : NumberedMoment). part_text rules size x.count part) (sym is)
 parts_text_add rules size t at end (first ∷ log) part passes =
     let split = passes_first t at end first log passes in
-    let front = part_text rules size at.count first in
-    let count = step_count t at split.0 first split.1 in
-    ap (λ (n : ℕ). front ++ parts_text rules size n (log ++ part ∷ [])) (sym count)
-    ∙ ap (λ (z : List ℕ). front ++ z) (parts_text_add rules size t split.0 end log part split.2)
-    ∙ ap (λ (n : ℕ). front ++ (parts_text rules size n log ++ part_text rules size end.count part)) count
-    ∙ sym (append_assoc front (parts_text rules size (count_after at.count first) log) (part_text rules size end.count part))
+    let rest = rw (step_count t at split.0 first split.1) at (parts_text_add rules size t split.0 end log part split.2) in
+    simp (rest, append_assoc)
 
 pub parts_add : (log : List LogPart) (part : LogPart) → AllByRecursion IsLogPart log → IsLogPart part → AllByRecursion IsLogPart (log ++ part ∷ [])
 parts_add [] part all is = (is, tt)
@@ -59,14 +52,10 @@ abbrev pub follows_more : (bytes rest behind : List ℕ) (rules : RuleSet) (log 
 follows_more bytes rest behind rules log end next part f comes =
     let is = f.transcript in
     let size = size_of f.opening in
-    let front = opening_text rules f.opening in
-    let lines = parts_text rules size is.start.count log in
-    let own = part_text rules size end.count part in
-    let whole : opening_text rules f.opening ++ parts_text rules size is.start.count (log ++ part ∷ []) ≡ (front ++ lines) ++ own =
-    ap (λ (z : List ℕ). front ++ z) (parts_text_add rules size (table_of rules) is.start end log part is.passes) ∙ sym (append_assoc front lines own) in
+    let text = parts_text_add rules size (table_of rules) is.start end log part is.passes in
     record {
       opening = f.opening;
-      good = front ++ parts_text rules size is.start.count (log ++ part ∷ []);
+      good = opening_text rules f.opening ++ parts_text rules size is.start.count (log ++ part ∷ []);
       transcript = record {
         start = is.start;
         opens = is.opens;
@@ -75,5 +64,5 @@ follows_more bytes rest behind rules log end next part f comes =
         not_too_many = comes.within;
         passes = passes_add (table_of rules) is.start end next log part is.passes comes.steps;
       };
-      splits = f.splits ∙ ap (λ (z : List ℕ). z ++ rest) is.text ∙ ap (λ (z : List ℕ). (front ++ lines) ++ z) comes.is ∙ sym (append_assoc (front ++ lines) own behind) ∙ ap (λ (z : List ℕ). z ++ behind) (sym whole);
+      splits = f.splits ∙ simp (is.text, comes.is, text, append_assoc);
     }

@@ -1,7 +1,7 @@
 -- A text ends, as a transcript or in a damage, in one way.
-use Rattle.auditor.proofs.Prelude.{◌≡◌, ◌≢◌, ℕ, ◌+◌, ◌⊎◌, inl, inr, List, [], ◌∷◌, ◌++◌, Option, length, drop, refl, sym, ap, subst, ◌∙◌, append_assoc, append-nil, none-some, same_Some, append_cancel_left, append_cancel_right, Base, RuleSet, State, LogPart, EntryPart, BasePart, NumberedMoment, base_of, entries_in, Entry, Answers, table_of, entry_text, base_text, first_line, SpellsEntry, first_line-ended, first_line-splits, spells_entry_once, cons_parts, AuditFault, BadHeader, NotALine, OutOfOrder, NotTheMachines, BadBase, Read, Memory, Summary, Opening, size_of, IsTranscript, SameRun, NextPart, epoch_count, move_count, BeginsWithTranscript, TranscriptPrefix, EntryComes, BeginsBase, CommonPrefix, IsLineBehind, HasNoEntry, HasBadHeader, HasBadStart, EndsInBadBase, IsDamage, Counts, IsAccepted}
-use Rattle.auditor.proofs.Feedless.{entry_free}
-use Rattle.auditor.proofs.Chains.{BeginsOther, Chain, Stops, chain_of, chain_meet, entry_other, nothing_stops, other_no_base, told_spells, told_is}
+use Rattle.auditor.proofs.Prelude.{◌≡◌, ◌≢◌, ℕ, ◌+◌, ◌⊎◌, inl, inr, List, [], ◌∷◌, ◌++◌, length, refl, sym, ap, subst, ◌∙◌, append_assoc, append-nil, none-some, append_cancel_left, append_cancel_right, Base, RuleSet, State, LogPart, EntryPart, BasePart, NumberedMoment, base_of, entries_in, Entry, Answers, table_of, base_text, first_line, cons_parts, AuditFault, BadHeader, NotALine, OutOfOrder, NotTheMachines, BadBase, Read, Memory, Summary, Opening, size_of, IsTranscript, SameRun, epoch_count, move_count, BeginsWithTranscript, TranscriptPrefix, EntryComes, BeginsBase, CommonPrefix, IsLineBehind, HasNoEntry, HasBadHeader, HasBadStart, IsDamage, Counts, IsAccepted, codes}
+pub use Rattle.auditor.proofs.Chains.{comes_no_base, entry_once, kept_begins, told_comes}
+use Rattle.auditor.proofs.Chains.{Chain, Stops, chain_of, chain_meet, nothing_stops}
 use Rattle.auditor.proofs.Openings.{SameOpening, follows_text, opening_once, parts_behind, header_good, start_good, header_no_start, start_once_bad}
 
 -- ---- two transcripts at the beginning of one text
@@ -21,10 +21,6 @@ pub chain_same : (r q : RuleSet) (o u : Opening) (start begin : NumberedMoment) 
 chain_same r q o u start begin x y also last left same chain =
     subst (λ (z : RuleSet × Opening × NumberedMoment × List ℕ). Chain z.0 (size_of z.1) z.2 also last z.3 left)
     (sym (λ i. (same.rules i, same.openings i, same.starts i, same.rests i))) chain
-
-pub stops_same : (r q : RuleSet) (o u : Opening) (last : NumberedMoment) (left : List ℕ) → r ≡ q → o ≡ u → Stops q (size_of u) last left → Stops r (size_of o) last left
-stops_same r q o u last left rules openings stops =
-    subst (λ (z : RuleSet). Stops z (size_of o) last left) (sym rules) (subst (λ (z : Opening). Stops q (size_of z) last left) (sym openings) stops)
 
 -- ---- where a text ends
 
@@ -55,22 +51,15 @@ split_of bytes at = split_at bytes at.rules at.log at.end at.rest at.follows
 pub ends_here : (bytes : List ℕ) (rules : RuleSet) (log : List LogPart) (end : NumberedMoment) (rest : List ℕ) (f : BeginsWithTranscript bytes rules log end rest) → Stops rules (size_of f.opening) end rest → Ended bytes (split_at bytes rules log end rest f)
 ends_here bytes rules log end rest f stops = record { transcript = f.transcript; splits = f.splits; stops = stops }
 
-goods_same : (bytes good fine rest left : List ℕ) → bytes ≡ good ++ rest → bytes ≡ fine ++ left → rest ≡ left → good ≡ fine
-goods_same bytes good fine rest left e f same =
-    append_cancel_right good fine left (ap (λ (z : List ℕ). good ++ z) (sym same) ∙ sym e ∙ f)
-
 -- a text ends in one place
 pub ended_once : (bytes : List ℕ) (a b : Split) → Ended bytes a → Ended bytes b → a ≡ b
 ended_once bytes a b x y =
     let f = followed bytes a x in
     let g = followed bytes b y in
     let same = begun bytes a.rules b.rules a.log b.log a.end b.end a.rest b.rest f g in
-    let start = x.transcript.start in
-    let text = parts_behind bytes a.rules a.log a.end a.rest f in
-    let also = chain_same a.rules b.rules a.opening b.opening start y.transcript.start text (parts_behind bytes b.rules b.log b.end b.rest g) b.log b.end b.rest same (chain_behind bytes b.rules b.log b.end b.rest g) in
-    let halts = stops_same a.rules b.rules a.opening b.opening b.end b.rest same.rules same.openings y.stops in
-    let met = chain_meet a.rules (size_of a.opening) start a.log b.log a.end b.end text a.rest b.rest (chain_behind bytes a.rules a.log a.end a.rest f) also x.stops halts in
-    let goods = goods_same bytes a.good b.good a.rest b.rest x.splits y.splits met.rests in
+    let also = chain_same a.rules b.rules a.opening b.opening _ _ _ _ b.log b.end b.rest same (chain_behind bytes b.rules b.log b.end b.rest g) in
+    let met = chain_meet a.rules (size_of a.opening) _ a.log b.log a.end b.end _ a.rest b.rest (chain_behind bytes a.rules a.log a.end a.rest f) also x.stops (rw (same.rules, same.openings) y.stops) in
+    let goods = append_cancel_right a.good b.good b.rest (ap (λ (z : List ℕ). a.good ++ z) (sym met.rests) ∙ sym x.splits ∙ y.splits) in
     λ i. record { rules = same.rules i; opening = same.openings i; good = goods i; log = met.logs i; end = met.ends i; rest = met.rests i }
 
 -- ---- how it ends there
@@ -112,9 +101,6 @@ pub record FailsBehind (bytes : List ℕ) (d : AuditFault) : Type 0 where
   pub at : TranscriptPrefix bytes
   pub fails : Fails (split_of bytes at) d
 
-abbrev pub base_fails : (bytes : List ℕ) (line : ℕ) → EndsInBadBase bytes line → FailsBehind bytes (BadBase line)
-base_fails bytes line x = record { at = x.at; fails = (x.begins, (x.parting, x.line_is)) }
-
 pub damage_fails : (bytes : List ℕ) (d : AuditFault) → IsDamage bytes d → FailsFirst bytes d ⊎ FailsBehind bytes d
 damage_fails bytes BadHeader x = inl x
 damage_fails bytes (NotALine line) x =
@@ -124,45 +110,14 @@ damage_fails bytes (OutOfOrder line) x =
 damage_fails bytes (NotTheMachines line) x =
     inr (record { at = x.at; fails = (x.line_is, (x.entry, x.comes, x.damage)) })
 damage_fails bytes (BadBase line) (inl x) = inl x
-damage_fails bytes (BadBase line) (inr x) = inr (base_fails bytes line x)
+damage_fails bytes (BadBase line) (inr x) = inr (record { at = x.at; fails = (x.begins, (x.parting, x.line_is)) })
 damage_fails bytes Read x = absurd x
 damage_fails bytes Memory x = absurd x
 
 -- ---- what comes
 
--- one first line, and one entry that it spells
-pub entry_once : (rest : List ℕ) (m n : ℕ) (e f : Entry) → EntryComes rest m e → EntryComes rest n f → (m ≡ n) × (e ≡ f)
-entry_once rest m n e f a b =
-    let same : (a.line, a.more) ≡ (b.line, b.more) = same_Some (a.line, a.more) (b.line, b.more) (sym a.is ∙ b.is) in
-    spells_entry_once a.line m n e f a.spells (subst (λ (l : List ℕ). SpellsEntry l n f) (sym (ap (λ (p : List ℕ × List ℕ). p.0) same)) b.spells)
-
-pub told_comes : (rules : RuleSet) (size : ℕ) (at : NumberedMoment) (rest : List ℕ) (entry : Entry) (next : NumberedMoment) (behind : List ℕ) → NextPart rules size at rest (EntryPart entry) next behind → EntryComes rest (at.count + 1) entry
-told_comes rules size at rest entry next behind x =
-    let line = entry_text (at.count + 1) entry.0 entry.1 in
-    let spells = told_spells rules size at rest entry next behind x in
-    record {
-      line = line;
-      more = behind;
-      is = ap first_line (told_is rules size at rest entry next behind x) ∙ first_line-ended line behind (entry_free line (at.count + 1) entry spells);
-      spells = spells;
-    }
-
-comes_other : (rest : List ℕ) (number : ℕ) (entry : Entry) → EntryComes rest number entry → BeginsOther rest
-comes_other rest number entry x =
-    let is : rest ≡ entry_text number entry.0 entry.1 ++ 10 ∷ x.more = first_line-splits rest x.line x.more x.is ∙ ap (λ (l : List ℕ). l ++ 10 ∷ x.more) x.spells.is in
-    subst BeginsOther (sym is) (entry_other number entry (10 ∷ x.more) x.spells.numbered.1)
-
--- if a base begins, no entry comes
-pub comes_no_base : (rest : List ℕ) (number : ℕ) (entry : Entry) → EntryComes rest number entry → BeginsBase rest → ⊥
-comes_no_base rest number entry x begins = other_no_base rest _ (comes_other rest number entry x) begins.1
-
-pub kept_begins : (rules : RuleSet) (size : ℕ) (at : NumberedMoment) (rest : List ℕ) (base : Base) (next : NumberedMoment) (behind : List ℕ) → NextPart rules size at rest (BasePart base) next behind → BeginsBase rest
-kept_begins rules size at rest base next behind x = (drop 9 (base_text rules size base ++ behind), x.is)
-
 none_comes : (rest : List ℕ) (number : ℕ) (entry : Entry) → HasNoEntry rest (first_line rest) → EntryComes rest number entry → ⊥
-none_comes rest number entry none comes =
-    let no = subst (λ (found : Option (List ℕ × List ℕ)). HasNoEntry rest found) comes.is none in
-    no number entry comes.spells
+none_comes rest number entry none comes = (rw comes.is at none) number entry comes.spells
 
 -- the text that the bytes part from does not begin them
 parted : (common missing more behind : List ℕ) → missing ≢ [] → ((b : ℕ) (x y : List ℕ) → missing ≡ b ∷ x → more ≡ b ∷ y → ⊥) → common ++ more ≡ (common ++ missing) ++ behind → ⊥
@@ -174,35 +129,22 @@ pub parting_begins : (text bytes behind : List ℕ) → CommonPrefix text bytes 
 parting_begins text bytes behind p e =
     parted p.common p.missing p.more behind p.some p.apart (sym p.had ∙ e ∙ ap (λ (t : List ℕ). t ++ behind) p.wanted)
 
+stops_by : (at : Split) → ((entry : Entry) (s : State) → EntryComes at.rest (at.end.count + 1) entry → Answers (table_of at.rules) at.end.moment.state at.end.moment.spent entry.0 entry.1 s → ⊥)
+    → ((behind : List ℕ) → BeginsBase at.rest → at.rest ≡ base_text at.rules (size_of at.opening) (base_of at.end.count at.end.moment) ++ behind → ⊥) → Stops at.rules (size_of at.opening) at.end at.rest
+stops_by at told kept (EntryPart entry) next behind x = told entry x.steps.0 (told_comes _ _ _ _ _ _ _ x) x.steps.1
+stops_by at told kept (BasePart base) next behind x =
+    kept behind (kept_begins _ _ _ _ _ _ _ x) (x.is ∙ ap (λ (b : Base). base_text at.rules (size_of at.opening) b ++ behind) x.steps.0)
+
 pub fails_stops : (at : Split) (d : AuditFault) → Fails at d → Stops at.rules (size_of at.opening) at.end at.rest
-fails_stops at BadHeader x = absurd x
-fails_stops at Read x = absurd x
-fails_stops at Memory x = absurd x
-fails_stops at (NotALine line) x = stops
-  where
-    stops : Stops at.rules (size_of at.opening) at.end at.rest
-    stops (EntryPart entry) next behind comes = none_comes at.rest (at.end.count + 1) entry x.2 (told_comes at.rules (size_of at.opening) at.end at.rest entry next behind comes)
-    stops (BasePart base) next behind comes = x.1 (kept_begins at.rules (size_of at.opening) at.end at.rest base next behind comes)
-fails_stops at (OutOfOrder line) (line_is, (number, other, comes, damage)) = stops
-  where
-    stops : Stops at.rules (size_of at.opening) at.end at.rest
-    stops (EntryPart entry) next behind told = damage (entry_once at.rest number (at.end.count + 1) other entry comes (told_comes at.rules (size_of at.opening) at.end at.rest entry next behind told)).0
-    stops (BasePart base) next behind kept = comes_no_base at.rest number other comes (kept_begins at.rules (size_of at.opening) at.end at.rest base next behind kept)
-fails_stops at (NotTheMachines line) (line_is, (other, comes, damage)) = stops
-  where
-    stops : Stops at.rules (size_of at.opening) at.end at.rest
-    stops (EntryPart entry) next behind told =
-        let same = (entry_once at.rest (at.end.count + 1) (at.end.count + 1) other entry comes (told_comes at.rules (size_of at.opening) at.end at.rest entry next behind told)).1 in
-        let answers = told.steps.1 in
-        damage told.steps.0 (subst (λ (z : Entry). Answers (table_of at.rules) at.end.moment.state at.end.moment.spent z.0 z.1 told.steps.0) (sym same) answers)
-    stops (BasePart base) next behind kept = comes_no_base at.rest (at.end.count + 1) other comes (kept_begins at.rules (size_of at.opening) at.end at.rest base next behind kept)
-fails_stops at (BadBase line) (begins, (parting, line_is)) = stops
-  where
-    stops : Stops at.rules (size_of at.opening) at.end at.rest
-    stops (EntryPart entry) next behind told = comes_no_base at.rest (at.end.count + 1) entry (told_comes at.rules (size_of at.opening) at.end at.rest entry next behind told) begins
-    stops (BasePart base) next behind kept =
-        parting_begins (base_text at.rules (size_of at.opening) (base_of at.end.count at.end.moment)) at.rest behind parting
-        (kept.is ∙ ap (λ (b : Base). base_text at.rules (size_of at.opening) b ++ behind) kept.steps.0)
+fails_stops at (NotALine line) x = stops_by at (λ entry s comes answers. none_comes at.rest _ entry x.2 comes) (λ behind begins is. x.1 begins)
+fails_stops at (OutOfOrder line) (line_is, (number, other, comes, damage)) =
+    stops_by at (λ entry s came answers. damage (entry_once at.rest number _ other entry comes came).0) (λ behind begins is. comes_no_base at.rest number other comes begins)
+fails_stops at (NotTheMachines line) (line_is, (other, comes, damage)) =
+    stops_by at (λ entry s came answers. damage s (subst (λ (z : Entry). Answers (table_of at.rules) at.end.moment.state at.end.moment.spent z.0 z.1 s) (sym (entry_once at.rest _ _ other entry comes came).1) answers))
+    (λ behind begins is. comes_no_base at.rest _ other comes begins)
+fails_stops at (BadBase line) (begins, (parting, line_is)) =
+    stops_by at (λ entry s comes answers. comes_no_base at.rest _ entry comes begins) (λ behind also is. parting_begins _ at.rest behind parting is)
+fails_stops at d x = absurd x
 
 -- if something fails, something is left
 pub some_rest : (rest : List ℕ) → HasNoEntry rest (first_line rest) → rest ≢ []
@@ -212,24 +154,17 @@ pub comes_rest : (rest : List ℕ) (number : ℕ) (entry : Entry) → EntryComes
 comes_rest rest number entry comes e = none-some (comes.line, comes.more) (sym (ap first_line e) ∙ comes.is)
 
 begins_rest : (rest : List ℕ) → BeginsBase rest → rest ≢ []
-begins_rest rest begins e = nothing _ (sym begins.1 ∙ e)
-  where
-    nothing : (more : List ℕ) → 109 ∷ more ≡ [] → ⊥
-    nothing more same = absurd cc
+begins_rest rest begins e = let nothing : codes "matching2" ++ begins.0 ≡ [] = sym begins.1 ∙ e in absurd cc
 
 pub fails_some : (at : Split) (d : AuditFault) → Fails at d → at.rest ≢ []
-fails_some at BadHeader x = absurd x
-fails_some at Read x = absurd x
-fails_some at Memory x = absurd x
 fails_some at (NotALine line) x = some_rest at.rest x.2
 fails_some at (OutOfOrder line) (line_is, (number, entry, comes, damage)) = comes_rest at.rest number entry comes
 fails_some at (NotTheMachines line) (line_is, (entry, comes, damage)) = comes_rest at.rest (at.end.count + 1) entry comes
 fails_some at (BadBase line) x = begins_rest at.rest x.0
+fails_some at d x = absurd x
 
 pub failure_ends : (bytes : List ℕ) (d : AuditFault) (x : FailsBehind bytes d) → Ended bytes (split_of bytes x.at)
-failure_ends bytes d x =
-    let at = x.at in
-    ends_here bytes at.rules at.log at.end at.rest at.follows (fails_stops (split_of bytes at) d x.fails)
+failure_ends bytes d x = ends_here bytes _ _ _ _ x.at.follows (fails_stops (split_of bytes x.at) d x.fails)
 
 -- ---- one way
 
@@ -249,32 +184,27 @@ parting_once text bytes p q =
 
 -- at one place one check fails
 pub fails_once : (at : Split) (d e : AuditFault) → Fails at d → Fails at e → d ≡ e
-fails_once at BadHeader e x y = absurd x
-fails_once at Read e x y = absurd x
-fails_once at Memory e x y = absurd x
-fails_once at d BadHeader x y = absurd y
-fails_once at d Read x y = absurd y
-fails_once at d Memory x y = absurd y
 fails_once at (NotALine k) (NotALine l) x y = ap (λ (n : ℕ). NotALine n) (x.0 ∙ sym y.0)
 fails_once at (NotALine k) (OutOfOrder l) x (line_is, (number, entry, comes, damage)) = absurd (none_comes at.rest number entry x.2 comes)
 fails_once at (NotALine k) (NotTheMachines l) x (line_is, (entry, comes, damage)) = absurd (none_comes at.rest (at.end.count + 1) entry x.2 comes)
 fails_once at (NotALine k) (BadBase l) x y = absurd (x.1 y.0)
 fails_once at (OutOfOrder k) (NotALine l) (line_is, (number, entry, comes, damage)) y = absurd (none_comes at.rest number entry y.2 comes)
 fails_once at (OutOfOrder k) (OutOfOrder l) x y = ap (λ (n : ℕ). OutOfOrder n) (x.0 ∙ sym y.0)
-fails_once at (OutOfOrder k) (NotTheMachines l) (line_is, (number, entry, comes, damage)) (also_is, (other, came, broken)) =
-    absurd (damage (entry_once at.rest number (at.end.count + 1) entry other comes came).0)
+fails_once at (OutOfOrder k) (NotTheMachines l) (line_is, (number, entry, comes, damage)) (also_is, (other, came, broken)) = absurd (damage (entry_once at.rest number _ entry other comes came).0)
 fails_once at (OutOfOrder k) (BadBase l) (line_is, (number, entry, comes, damage)) y = absurd (comes_no_base at.rest number entry comes y.0)
 fails_once at (NotTheMachines k) (NotALine l) (line_is, (entry, comes, damage)) y = absurd (none_comes at.rest (at.end.count + 1) entry y.2 comes)
-fails_once at (NotTheMachines k) (OutOfOrder l) (also_is, (other, came, broken)) (line_is, (number, entry, comes, damage)) =
-    absurd (damage (entry_once at.rest number (at.end.count + 1) entry other comes came).0)
+fails_once at (NotTheMachines k) (OutOfOrder l) (also_is, (other, came, broken)) (line_is, (number, entry, comes, damage)) = absurd (damage (entry_once at.rest number _ entry other comes came).0)
 fails_once at (NotTheMachines k) (NotTheMachines l) x y = ap (λ (n : ℕ). NotTheMachines n) (x.0 ∙ sym y.0)
 fails_once at (NotTheMachines k) (BadBase l) (line_is, (entry, comes, damage)) y = absurd (comes_no_base at.rest (at.end.count + 1) entry comes y.0)
 fails_once at (BadBase k) (NotALine l) x y = absurd (y.1 x.0)
 fails_once at (BadBase k) (OutOfOrder l) x (line_is, (number, entry, comes, damage)) = absurd (comes_no_base at.rest number entry comes x.0)
 fails_once at (BadBase k) (NotTheMachines l) x (line_is, (entry, comes, damage)) = absurd (comes_no_base at.rest (at.end.count + 1) entry comes x.0)
 fails_once at (BadBase k) (BadBase l) (begins, (p, line_is)) (began, (q, also_is)) =
-    let common = parting_once (base_text at.rules (size_of at.opening) (base_of at.end.count at.end.moment)) at.rest p q in
-    ap (λ (n : ℕ). BadBase n) (subst (λ (c : List ℕ). IsLineBehind k (at.good ++ c)) common line_is ∙ sym also_is)
+    ap (λ (n : ℕ). BadBase n) (subst (λ (c : List ℕ). IsLineBehind k (at.good ++ c)) (parting_once _ at.rest p q) line_is ∙ sym also_is)
+fails_once at d BadHeader x y = absurd y
+fails_once at d Read x y = absurd y
+fails_once at d Memory x y = absurd y
+fails_once at d e x y = absurd x
 
 pub first_once : (bytes : List ℕ) (d e : AuditFault) → FailsFirst bytes d → FailsFirst bytes e → d ≡ e
 first_once bytes BadHeader BadHeader x y = refl
@@ -291,13 +221,6 @@ first_good bytes BadHeader rules log end rest x f = header_good bytes rules log 
 first_good bytes (BadBase line) rules log end rest x f = start_good bytes line rules log end rest x f
 first_good bytes d rules log end rest x f = x
 
-behind_once : (bytes : List ℕ) (d e : AuditFault) → FailsBehind bytes d → FailsBehind bytes e → d ≡ e
-behind_once bytes d e x y =
-    let a = split_of bytes x.at in
-    let b = split_of bytes y.at in
-    let same : a ≡ b = ended_once bytes a b (failure_ends bytes d x) (failure_ends bytes e y) in
-    fails_once b d e (subst (λ (z : Split). Fails z d) same x.fails) y.fails
-
 pub damage_once : (bytes : List ℕ) (d e : AuditFault) → IsDamage bytes d → IsDamage bytes e → d ≡ e
 damage_once bytes d e x y = by (damage_fails bytes d x) (damage_fails bytes e y)
   where
@@ -305,7 +228,7 @@ damage_once bytes d e x y = by (damage_fails bytes d x) (damage_fails bytes e y)
     by (inl a) (inl b) = first_once bytes d e a b
     by (inl a) (inr b) = absurd (first_good bytes d b.at.rules b.at.log b.at.end b.at.rest a b.at.follows)
     by (inr a) (inl b) = absurd (first_good bytes e a.at.rules a.at.log a.at.end a.at.rest b a.at.follows)
-    by (inr a) (inr b) = behind_once bytes d e a b
+    by (inr a) (inr b) = fails_once (split_of bytes b.at) d e (subst (λ (z : Split). Fails z d) (ended_once bytes _ _ (failure_ends bytes d a) (failure_ends bytes e b)) a.fails) b.fails
 
 -- ---- transcripts
 
@@ -336,9 +259,8 @@ no_damage bytes rules opening log end d is x = by (damage_fails bytes d x)
     by : FailsFirst bytes d ⊎ FailsBehind bytes d → ⊥
     by (inl a) = first_good bytes d rules log end [] a (followed bytes (whole bytes rules opening log end) (transcript_ends bytes rules opening log end is))
     by (inr a) =
-        let place = split_of bytes a.at in
-        let once = ended_once bytes place (whole bytes rules opening log end) (failure_ends bytes d a) (transcript_ends bytes rules opening log end is) in
-        fails_some place d a.fails (ap (λ (z : Split). z.rest) once)
+        let once = ended_once bytes _ (whole bytes rules opening log end) (failure_ends bytes d a) (transcript_ends bytes rules opening log end is) in
+        fails_some (split_of bytes a.at) d a.fails (ap (λ (z : Split). z.rest) once)
 
 pub accepted_no_damage : (bytes : List ℕ) (counted : Summary) (d : AuditFault) → IsAccepted bytes counted → IsDamage bytes d → ⊥
 accepted_no_damage bytes counted d is x = no_damage bytes is.rules is.opening is.log is.end d is.transcript x

@@ -7,13 +7,8 @@ use Rattle.auditor.proofs.Spent.{begins_again}
 use Rattle.auditor.proofs.VerdictUniqueness.{heard_damage}
 
 -- the end is where the cursor is after all of the bytes
-pub record IsEndOf (replay : TranscriptCursor) (end : TranscriptEnd) : Type 0 where
-  pub rules : end.rules ≡ replay.rules
-  pub moment : end_moment end ≡ stand_of replay.audit
-  pub summary : end.summary ≡ replay.audit.counted
-
-pub end_is : (bytes : List ℕ) (replay : TranscriptCursor) (end : TranscriptEnd) → IsEndOf replay end → IsCursorAt bytes replay [] → IsTranscriptEnd bytes end
-end_is bytes replay end is at =
+pub end_is : (bytes : List ℕ) (replay : TranscriptCursor) (end : TranscriptEnd) → end.rules ≡ replay.rules → end_moment end ≡ stand_of replay.audit → end.summary ≡ replay.audit.counted → IsCursorAt bytes replay [] → IsTranscriptEnd bytes end
+end_is bytes replay end rules moment summary at =
     let r = at.reached in
     let o = r.follows.opening in
     let good = all_good bytes replay.rules r.log (stand_of replay.audit) [] r.follows refl in
@@ -22,10 +17,10 @@ end_is bytes replay end is at =
       opening = o;
       log = r.log;
       transcript =
-          subst (λ (e : NumberedMoment). IsTranscript bytes end.rules o r.log e) (sym is.moment)
-          (subst (λ (x : RuleSet). IsTranscript bytes x o r.log (stand_of replay.audit)) (sym is.rules) good);
-      size_is = sym begins.size_is ∙ sym (ap (λ (e : NumberedMoment). e.moment.state.network.size) is.moment);
-      counts = subst (λ (c : Summary). Counts c (entries_in r.log)) (sym is.summary) r.counts;
+          subst (λ (e : NumberedMoment). IsTranscript bytes end.rules o r.log e) (sym moment)
+          (subst (λ (x : RuleSet). IsTranscript bytes x o r.log (stand_of replay.audit)) (sym rules) good);
+      size_is = sym begins.size_is ∙ sym (ap (λ (e : NumberedMoment). e.moment.state.network.size) moment);
+      counts = subst (λ (c : Summary). Counts c (entries_in r.log)) (sym summary) r.counts;
     }
 
 -- a run may go on from the end of any

@@ -1,5 +1,5 @@
 -- What was judged is the one verdict of the text.
-use Rattle.auditor.proofs.Prelude.{◌≡◌, ℕ, ◌⊎◌, inl, inr, List, Option, None, Some, IfSome, Result, Ok, Err, IfErr, refl, ap, subst, AuditFault, Read, Memory, Summary, IsAccepted, IsDamage, IsJudged, IsAuditFault, IsAuditResult, AcceptsRuns, NamesDamage}
+use Rattle.auditor.proofs.Prelude.{◌≡◌, ℕ, ◌⊎◌, inl, inr, ⊎_elim, List, Result, Ok, Err, IfErr, refl, ap, subst, AuditFault, Read, Memory, Summary, IsAccepted, IsDamage, IsJudged, IsAuditFault, IsAuditResult, AcceptsRuns, NamesDamage}
 use Rattle.auditor.proofs.TextEnds.{damage_once, count_once, accepted_no_damage}
 
 pub judged_accepts : (bytes : List ℕ) (result : Result Summary AuditFault) → IsJudged bytes result → (counted : Summary) → IsAccepted bytes counted → (result ≡ Ok counted) ⊎ (result ≡ Err Memory)
@@ -26,22 +26,9 @@ heard_damage bytes (Err d) (inl judged) = judged
 heard_damage bytes (Err d) (inr e) = absurd cc
 
 pub heard_accepts : (bytes : List ℕ) (result : Result Summary AuditFault) → IsAuditResult bytes result → AcceptsRuns bytes result
-heard_accepts bytes result (inl judged) counted is = more (judged_accepts bytes result judged counted is)
-  where
-    more : (result ≡ Ok counted) ⊎ (result ≡ Err Memory) → (result ≡ Ok counted) ⊎ (result ≡ Err Read) ⊎ (result ≡ Err Memory)
-    more (inl e) = inl e
-    more (inr e) = inr (inr e)
+heard_accepts bytes result (inl judged) counted is = ⊎_elim (λ e. inl e) (λ e. inr (inr e)) (judged_accepts bytes result judged counted is)
 heard_accepts bytes result (inr e) counted is = inr (inl e)
 
 pub heard_names : (bytes : List ℕ) (result : Result Summary AuditFault) → IsAuditResult bytes result → NamesDamage bytes result
-heard_names bytes result (inl judged) damage is = more (judged_names bytes result judged damage is)
-  where
-    more : (result ≡ Err damage) ⊎ (result ≡ Err Memory) → (result ≡ Err damage) ⊎ (result ≡ Err Read) ⊎ (result ≡ Err Memory)
-    more (inl e) = inl e
-    more (inr e) = inr (inr e)
+heard_names bytes result (inl judged) damage is = ⊎_elim (λ e. inl e) (λ e. inr (inr e)) (judged_names bytes result judged damage is)
 heard_names bytes result (inr e) damage is = inr (inl e)
-
--- what follows for bytes that are known
-pub for_known : (a : Option (List ℕ)) (P Q : List ℕ → Type 0) → IfSome a P → ((bytes : List ℕ) → P bytes → Q bytes) → IfSome a Q
-for_known None P Q p more = tt
-for_known (Some bytes) P Q p more = more bytes p

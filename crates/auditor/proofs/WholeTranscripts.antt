@@ -1,5 +1,5 @@
 -- A transcript that is gone through from its beginning to its end.
-use Rattle.auditor.proofs.Prelude.{◌≡◌, ℕ, ◌+◌, ◌<◌, ◌≤◌, ◌^◌, inl, List, [], ◌++◌, None, Err, length, sym, ap, subst, ◌∙◌, append_assoc, arith, append_cancel_right, length-append, ∥∥₁_elim, ∥∥₁_map, props, RuleSet, AuditFault, Memory, TranscriptCursor, part_text, Position, stand_of, IsPositionAfter, line_feeds, IsMetBehind, IsMetFirst, IsCursorAfter, IsCursorAt, IsCompared, IsPassed, IsReachable, ReachableBy, StaysInPlace, IsJudged}
+use Rattle.auditor.proofs.Prelude.{◌≡◌, ℕ, ◌+◌, ◌<◌, ◌^◌, inl, List, [], ◌++◌, None, Err, length, sym, ap, ◌∙◌, append_assoc, arith, append_cancel_right, length-append, ∥∥₁_elim, ∥∥₁_map, props, AuditFault, Memory, TranscriptCursor, part_text, stand_of, IsMetBehind, IsMetFirst, IsCursorAfter, IsCursorAt, IsCompared, IsPassed, IsReachable, StaysInPlace, IsJudged}
 use Rattle.auditor.proofs.Chains.{comes_shorter}
 use Rattle.auditor.proofs.LineCounts.{feeds_few}
 use Rattle.auditor.proofs.AuditPositions.{opened_reached, reached_more}
@@ -17,33 +17,14 @@ behind_judged bytes count damage met = (met None tt).is
 -- ---- where a replay is
 
 -- all that it has counted is in the bytes
-pub at_few : (bytes : List ℕ) (replay : TranscriptCursor) (rest : List ℕ) → IsCursorAt bytes replay rest → replay.lines + length rest ≤ length bytes
-at_few bytes replay rest at =
-    let follows = at.reached.follows in
-    let lines = at.counted follows.good follows.splits in
-    let few = feeds_few follows.good in
-    let whole = ap length follows.splits ∙ length-append follows.good rest in
-    omega (arith, lines, few, whole)
-
 pub somewhere_few : (replay : TranscriptCursor) (rest : List ℕ) → IsReachable replay rest → replay.lines + length rest < 2 ^ 63
-somewhere_few replay rest somewhere = ∥∥₁_elim somewhere (search props) few
-  where
-    few : ReachableBy replay rest → replay.lines + length rest < 2 ^ 63
-    few at =
-        let less = at_few at.bytes replay rest at.at in
-        let all = at.few in
-        omega (arith, less, all)
+somewhere_few replay rest somewhere = ∥∥₁_elim somewhere (search props) (λ s.
+    let f = s.at.reached.follows in
+    omega (arith, s.few, s.at.counted f.good f.splits, feeds_few f.good, ap length f.splits, length-append f.good rest))
 
 -- another replay is at the same place
-pub at_same : (bytes : List ℕ) (old new : TranscriptCursor) (rest : List ℕ) → new.rules ≡ old.rules → new.size ≡ old.size → new.audit ≡ old.audit → new.lines ≡ old.lines → IsCursorAt bytes old rest → IsCursorAt bytes new rest
-at_same bytes old new rest rules size audit lines at = record {
-  reached =
-      subst (λ (x : RuleSet × ℕ × Position). IsPositionAfter bytes x.0 x.1 x.2 rest) (sym (λ i. (rules i, size i, audit i))) at.reached;
-  counted = λ good e. lines ∙ at.counted good e;
-}
-
 pub waited : (bytes : List ℕ) (old new : TranscriptCursor) (rest all : List ℕ) → StaysInPlace old new rest → IsCursorAt bytes old all → IsCursorAt bytes new all
-waited bytes old new rest all w at = at_same bytes old new all w.rules w.size w.audit w.lines at
+waited bytes old new rest all w at = record { reached = rw (w.rules, w.size, w.audit) at.reached; counted = λ good e. w.lines ∙ at.counted good e }
 
 pub waited_somewhere : (old new : TranscriptCursor) (rest : List ℕ) → IsReachable old rest → StaysInPlace old new rest → IsReachable new rest
 waited_somewhere old new rest somewhere w = ∥∥₁_map somewhere (λ at. record { bytes = at.bytes; few = at.few; at = waited at.bytes old new rest rest w at.at })
@@ -63,19 +44,15 @@ compared_none replay rest unwanted none = ∣ record { text = inl unwanted; alik
 
 -- the part, cut out of the text
 pub passed_at : (bytes : List ℕ) (old new : TranscriptCursor) (rest behind : List ℕ) → IsCursorAt bytes old rest → IsPassed old new rest behind → IsCursorAt bytes new behind
-passed_at bytes old new rest behind at p =
-    let more = reached_more bytes old.rules old.size old.audit new.audit rest behind at.reached p.further in
-    let ruled = subst (λ (r : RuleSet). IsPositionAfter bytes r old.size new.audit behind) (sym p.rules) more in
-    record { reached = subst (λ (n : ℕ). IsPositionAfter bytes new.rules n new.audit behind) (sym p.size) ruled; counted = counted }
-  where
-    counted : (good : List ℕ) → bytes ≡ good ++ behind → new.lines ≡ line_feeds good
-    counted good e =
-        let further = p.further in
-        let text = part_text old.rules old.size old.audit.number further.part in
-        let before = at.reached.follows.good in
-        let splits : bytes ≡ (before ++ text) ++ behind = at.reached.follows.splits ∙ ap (λ (z : List ℕ). before ++ z) further.comes.is ∙ sym (append_assoc before text behind) in
-        let same : good ≡ before ++ text = append_cancel_right good (before ++ text) behind (sym e ∙ splits) in
-        p.lines text further.comes.is ∙ ap (λ (n : ℕ). n + line_feeds text) (at.counted before at.reached.follows.splits) ∙ sym (feeds_append before text) ∙ sym (ap line_feeds same)
+passed_at bytes old new rest behind at p = record {
+  reached = rw (p.rules, p.size) (reached_more bytes old.rules old.size old.audit new.audit rest behind at.reached p.further);
+  counted = λ good e.
+      let f = at.reached.follows in
+      let text = part_text old.rules old.size old.audit.number p.further.part in
+      let is : rest ≡ text ++ behind = p.further.comes.is in
+      let same : good ≡ f.good ++ text = append_cancel_right good (f.good ++ text) behind (sym e ∙ f.splits ∙ ap (λ (z : List ℕ). f.good ++ z) is ∙ sym (append_assoc f.good text behind)) in
+      p.lines text is ∙ simp (same, feeds_append, at.counted f.good f.splits);
+}
 
 pub passed_somewhere : (old new : TranscriptCursor) (rest behind : List ℕ) → IsReachable old rest → IsPassed old new rest behind → IsReachable new behind
 passed_somewhere old new rest behind somewhere p = ∥∥₁_map somewhere (λ at. record { bytes = at.bytes; few = at.few; at = passed_at at.bytes old new rest behind at.at p })

@@ -1,7 +1,6 @@
 use Rattle.auditor.proofs.Prelude.{◌≡◌, ◌∙◌, ◌≤◌, ◌+◌, ℕ, open_at, Epoch, List, [], None, length, refl, sym, ap, subst, eqb-true, nil_from_length, CostedEpoch, Summary, counted_part}
 use Rattle.auditor.proofs.WholeTranscripts.{begun_at, behind_judged, compared_none, first_judged, passed_at, passed_compared, passed_shorter}
-use Rattle.auditor.proofs.EpochBounds.{rows_few}
-use Rattle.auditor.proofs.EpochCosts.{rows_paid}
+use Rattle.auditor.proofs.EpochBounds.{rows_few, rows_paid}
 use Rattle.auditor.proofs.EpochSteps.{IsListed, listed_start, listed_on, listed_all, listed_bounded}
 use Rattle.auditor.proofs.epoch_list.epochs_of.Goals as goal
 
@@ -59,20 +58,10 @@ returns-clause-epochs c =
     listed_all c.args.bytes.now replay.rules replay.size replay.audit rest c.loop-rest.list.items c.push.new.list.items c.loop-rest.row c.loop-rest.rounds c.loop-rest.invariant.listed none c.in_ok-push.ensures
 
 pub returns-clause-bounded : goal.returns-clause-bounded
-returns-clause-bounded c =
-    let replay = c.loop-rest.replay in
-    let rest = c.loop-rest.rest.now in
-    let none : rest ≡ [] = nil_from_length rest (eqb-true (length rest) 0 (sym c.is_empty.ensures ∙ c.loop-rest-test.false)) in
-    listed_bounded c.args.bytes.now replay.rules c.push.new.list.items
-    (listed_all c.args.bytes.now replay.rules replay.size replay.audit rest c.loop-rest.list.items c.push.new.list.items c.loop-rest.row c.loop-rest.rounds c.loop-rest.invariant.listed none c.in_ok-push.ensures)
+returns-clause-bounded c = listed_bounded c.args.bytes.now c.loop-rest.replay.rules c.push.new.list.items (returns-clause-epochs c)
 
 pub returns-clause-few : goal.returns-clause-few
-returns-clause-few c =
-    let replay = c.loop-rest.replay in
-    let rest = c.loop-rest.rest.now in
-    let none : rest ≡ [] = nil_from_length rest (eqb-true (length rest) 0 (sym c.is_empty.ensures ∙ c.loop-rest-test.false)) in
-    rows_few c.args.bytes.now replay.rules c.push.new.list.items
-    (listed_all c.args.bytes.now replay.rules replay.size replay.audit rest c.loop-rest.list.items c.push.new.list.items c.loop-rest.row c.loop-rest.rounds c.loop-rest.invariant.listed none c.in_ok-push.ensures)
+returns-clause-few c = rows_few c.args.bytes.now c.loop-rest.replay.rules c.push.new.list.items (returns-clause-epochs c)
 
 pub returns-clause-paid : goal.returns-clause-paid
 returns-clause-paid c = rows_paid c.args.bytes.now c.loop-rest.replay.rules c.push.new.list.items

@@ -4,13 +4,12 @@ use Rattle.auditor.proofs.Windows.{rest_few}
 use Rattle.auditor.proofs.transcript_cursor.TranscriptCursor.at_header.Goals as goal
 
 pub lines_before-requires : goal.lines_before-requires
-lines_before-requires c = rest_few c.args.text.now c.requires.line.0 c.args.rest.now c.requires.line.1
+lines_before-requires c = rest_few _ _ _ c.requires.line.1
 
 pub returns-clause-begins : goal.returns-clause-begins
-returns-clause-begins c =
-    record {
-      opened = header_opened c.args.text.now c.requires.line.0 c.args.rest.now c.args.header c.in_ok-judge.judge c.new.result c.requires.line.1 c.requires.line.2 c.in_ok-judge.ensures c.new.ensures;
-      counted = c.lines_before.ensures;
-      unwanted = c.new-2.ensures.items;
-      none_same = refl;
-    }
+returns-clause-begins c = record {
+  opened = header_opened _ _ _ c.args.header _ _ c.requires.line.1 c.requires.line.2 c.in_ok-judge.ensures c.new.ensures;
+  counted = c.lines_before.ensures;
+  unwanted = c.new-2.ensures.items;
+  none_same = refl;
+}
