@@ -13,7 +13,7 @@ use Rattle.rule_machine.specs.Refuse.{flag_refusal, point_refusal, step_refusal}
 use Rattle.daemon.specs.DaemonLaws.{plain}
 use Rattle.daemon.specs.DrawnChoices.{draw}
 use Rattle.fault_injector.specs.DrawnFaults.{fault_at, flag_fault, is_odd, node_at, pointer_at, pointer_fault, rest, word}
-use Rattle.script_text.proofs.AcceptedDraws.{drawn_taken}
+use Rattle.script_text.proofs.DrawnTurns.{drawn_taken}
 
 -- nothing is found in an idle state, or an event whose receipt is of a kind
 abbrev pub Finds : (Receipt → Type 0) → Type 0 → RuleTable → RetainedLog → Option Event → Type 0

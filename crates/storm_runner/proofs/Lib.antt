@@ -8,3 +8,4 @@ pub mod SplitScripts
 pub mod FreshRoamers
 pub mod Outcomes
 pub mod StormResults
+pub mod LineOutput
