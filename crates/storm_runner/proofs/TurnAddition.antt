@@ -77,10 +77,10 @@ one_more setting draws words next left count old mid new base grows so_far adds 
 -- ---- where they end
 
 -- all turns were taken
-pub all_taken : (setting : Setting) (draws : Draws) (words left : Stream) (count : ℕ) (old new : ClerkView) → Took setting draws words left count old new → TakesTurnsUpTo {A = Unit {0}} {E = CallFault} setting draws words count old new (Ok tt)
-all_taken setting draws words left count old new took =
+pub all_taken : (setting : Setting) (draws : Draws) (words left : Stream) (asked count : ℕ) (old new : ClerkView) → count ≡ asked → Took setting draws words left count old new → TakesTurnsUpTo {A = Unit {0}} {E = CallFault} setting draws words asked old new (Ok tt)
+all_taken setting draws words left asked count old new all took =
     let as_many = took.as_many in
-    record { own = took.own; added = took.added; fits = ((omega (arith, as_many), (left, took.turns), λ less. absurd (omega (arith, as_many, less))), took.above) }
+    record { own = took.own; added = took.added; fits = ((omega (arith, all, as_many), (left, took.turns), λ less. absurd (omega (arith, all, as_many, less))), took.above) }
 
 -- the turns before one that found nothing are all that there are
 pub turns_rested : (setting : Setting) (draws : Draws) (words left : Stream) (asked count : ℕ) (old mid new : ClerkView) → count < asked → IsPrefix (noted mid.note) (noted new.note) → Took setting draws words left count old mid → FindsNothing setting draws mid.receipts new

@@ -1,4 +1,4 @@
-use Rattle.storm_runner.proofs.Prelude.{setting_of, ◌∙◌, book_of, noted, prefix_trans}
+use Rattle.storm_runner.proofs.Prelude.{setting_of, ◌∙◌, arith, book_of, noted, prefix_trans}
 use Rattle.storm_runner.proofs.TurnAddition.{all_taken, breaks_off, one_more, turns_rested}
 use Rattle.storm_runner.proofs.ClerkNotes.{of_book}
 use Rattle.storm_runner.proofs.turns.take_turns.Goals as goal
@@ -19,7 +19,7 @@ loop-preserved g c =
     }
 
 pub returns-clause-ends : goal.returns-clause-ends
-returns-clause-ends g c = all_taken _ _ _ _ _ _ _ c.loop.invariant.took
+returns-clause-ends g c = all_taken _ _ _ _ c.args.count c.loop.counter _ _ (omega arith) c.loop.invariant.took
 
 pub returns-in_err-take_turn-clause-ends : goal.returns-in_err-take_turn-clause-ends
 returns-in_err-take_turn-clause-ends g c =
